@@ -26,7 +26,8 @@ use Rattle.asn1_laws_values.specs.MessageLaws.{canonically}
 
 module _ {F : Type 0} {D : F → Type 0} {A : Type 0} (free : F → Bool) (may : Form F D A → Form F D A → Type 0) where
   -- if each form that is allowed instead is read as it is written, all is
-  pub each_as_written : ((x y : Form F D A) (p : ℕ) (w : List A) → may x y → ReadsAsWritten free y p w → ReadsAsWritten free x p w) → (x : Form F D A) (p : ℕ) (w : List A) → ReadsWith may x p w → ReadsAsWritten free x p w
+  pub each_as_written : ((x y : Form F D A) (p : ℕ) (w : List A) → may x y → ReadsAsWritten free y p w → ReadsAsWritten free x p w) →
+      (x : Form F D A) (p : ℕ) (w : List A) → ReadsWith may x p w → ReadsAsWritten free x p w
   unfolding ReadsWith ReadsAsWritten
   each_as_written h (exactly l) p w r = r
   each_as_written h refused p w r = r
@@ -68,12 +69,16 @@ module _ {F : Type 0} {D : F → Type 0} {A : Type 0} (free : F → Bool) (may :
   written_with (within x f) p w r = (r.0, written_with x 0 r.0 r.1, written_with (f r.0) p w r.2)
 
 bits_step : (al : Bool) (x y : Per.BitForm) (p : ℕ) (w : List Bool) → IsAlikeHere al x y → ReadsAsWritten strict_per y p w → ReadsAsWritten strict_per x p w
-bits_step al x y p w (inl (z, held, s, vs, is, ys, l, e, f, c, a)) r = subst (λ t. ReadsAsWritten strict_per t p w) (sym e) (packed_bags strict_per al z held s vs is ys p w refl l c a (subst (λ t. ReadsAsWritten strict_per t p w) f r))
-bits_step al x y p w (inr (ms, root, xs, all, b, e, f, c, l)) r = subst (λ t. ReadsAsWritten strict_per t p w) (sym e) (packed_bitmaps strict_per al ms root xs all b p w refl c l (subst (λ t. ReadsAsWritten strict_per t p w) f r))
+bits_step al x y p w (inl (z, held, s, vs, is, ys, l, e, f, c, a)) r =
+    subst (λ t. ReadsAsWritten strict_per t p w) (sym e) (packed_bags strict_per al z held s vs is ys p w refl l c a (subst (λ t. ReadsAsWritten strict_per t p w) f r))
+bits_step al x y p w (inr (ms, root, xs, all, b, e, f, c, l)) r =
+    subst (λ t. ReadsAsWritten strict_per t p w) (sym e) (packed_bitmaps strict_per al ms root xs all b p w refl c l (subst (λ t. ReadsAsWritten strict_per t p w) f r))
 
 octets_step : (x y : Oer.OctetForm) (p : ℕ) (w : List ℕ) → AreOctetsAlikeHere x y → ReadsAsWritten strict_oer y p w → ReadsAsWritten strict_oer x p w
-octets_step x y p w (inl (z, held, s, vs, is, ys, l, e, f, c, a)) r = subst (λ t. ReadsAsWritten strict_oer t p w) (sym e) (octets_bags strict_oer z held s vs is ys p w refl l c a (subst (λ t. ReadsAsWritten strict_oer t p w) f r))
-octets_step x y p w (inr (ms, root, xs, all, b, e, f, c, l)) r = subst (λ t. ReadsAsWritten strict_oer t p w) (sym e) (octet_bitmaps strict_oer ms root xs all b p w refl c l (subst (λ t. ReadsAsWritten strict_oer t p w) f r))
+octets_step x y p w (inl (z, held, s, vs, is, ys, l, e, f, c, a)) r =
+    subst (λ t. ReadsAsWritten strict_oer t p w) (sym e) (octets_bags strict_oer z held s vs is ys p w refl l c a (subst (λ t. ReadsAsWritten strict_oer t p w) f r))
+octets_step x y p w (inr (ms, root, xs, all, b, e, f, c, l)) r =
+    subst (λ t. ReadsAsWritten strict_oer t p w) (sym e) (octet_bitmaps strict_oer ms root xs all b p w refl c l (subst (λ t. ReadsAsWritten strict_oer t p w) f r))
 
 bits_as_written : (al : Bool) (x : Per.BitForm) (p : ℕ) (w : List Bool) → ReadsWith (IsAlikeHere al) x p w → ReadsAsWritten strict_per x p w
 bits_as_written al x p w r = each_as_written strict_per (IsAlikeHere al) (bits_step al) x p w r
@@ -116,8 +121,10 @@ pub in_order : (r : Rules) (s : Schema) (v : Value) (w : List ℕ) → list_all 
 in_order r s v w o h = own_width r s v w o (in_order_of_own_width r s v w h)
 
 -- what is canonical is in order
-packed_in : (al : Bool) (s : Schema) (v : Value) (w : List ℕ) → option_and_then of_moderate_length (per al s v) ≡ Some w → (length w < 2 ^ 60) × ReadsWith (HasAscendingBag al) (Per.message al s v) 0 (octet_bits w)
-packed_in al s v w e = let t = per_text al s v w e in (t.0, written_with strict_per (HasAscendingBag al) (Per.message al s v) 0 (octet_bits w) (reads_written (Per.message al s v) 0 (octet_bits w) t.1))
+packed_in : (al : Bool) (s : Schema) (v : Value) (w : List ℕ) → option_and_then of_moderate_length (per al s v) ≡ Some w → (length w < 2 ^ 60) ×
+    ReadsWith (HasAscendingBag al) (Per.message al s v) 0 (octet_bits w)
+packed_in al s v w e = let t = per_text al s v w e in
+    (t.0, written_with strict_per (HasAscendingBag al) (Per.message al s v) 0 (octet_bits w) (reads_written (Per.message al s v) 0 (octet_bits w) t.1))
 
 octets_in : (s : Schema) (v : Value) (w : List ℕ) → option_and_then of_moderate_length (octet_encoding s v) ≡ Some w → (length w < 2 ^ 60) × ReadsWith HasAscendingOctetBag (Oer.form s v) 0 w
 octets_in s v w e = let t = octet_text s v w e in (t.0, written_with strict_oer HasAscendingOctetBag (Oer.form s v) 0 w (reads_written (Oer.form s v) 0 w t.1))
@@ -138,5 +145,13 @@ in_order_here = map (λ v. Oer.form integers v) (num 1 ∷ num 2 ∷ num 3 ∷ [
 pub in_order_rows : InOrderRows
 unfolding IsEncodingInOrder ReadsWith on_values is_lawful in_order_here
 in_order_rows =
-    let m : HasAscendingOctetBag (Oer.form (bag_of integers) (bag_with (num 3 ∷ num 1 ∷ num 2 ∷ []))) (Oer.members_form any_count in_order_here) = (any_size, any_count, integers, values_of (num 3 ∷ num 1 ∷ num 2 ∷ []), 1 ∷ 1 ∷ 0 ∷ [], in_order_here, refl, refl, refl, refl, refl) in
-    (ltb-true _ _ refl, (Some (1 ∷ 1 ∷ 0 ∷ []), inr m, written_with strict_oer HasAscendingOctetBag (Oer.members_form any_count in_order_here) 0 _ (reads_written (Oer.members_form any_count in_order_here) 0 _ refl)))
+    let m : HasAscendingOctetBag (Oer.form (bag_of integers) (bag_with (num 3 ∷ num 1 ∷ num 2 ∷ []))) (Oer.members_form any_count in_order_here) =
+    (any_size, any_count, integers, values_of (num 3 ∷ num 1 ∷ num 2 ∷ []), 1 ∷ 1 ∷ 0 ∷ [], in_order_here, refl, refl, refl, refl, refl) in (
+      ltb-true _ _ refl,
+      (
+        Some (1 ∷ 1 ∷ 0 ∷ []),
+        inr m,
+        written_with strict_oer HasAscendingOctetBag (Oer.members_form any_count in_order_here) 0 _
+            (reads_written (Oer.members_form any_count in_order_here) 0 _ refl),
+      ),
+    )

@@ -25,7 +25,8 @@ covers_own unknown xs =
     let a = append-nil xs in
     rw (n, l, t, a) refl
 
-module _ (F : Type 0) (D : F → Type 0) (A : Type 0) (free : F → Bool) (unknown : List ℕ → Form F D A) (unknown_alike : (os ps : List ℕ) → Agree {F = F} {D = D} {A = A} free (unknown os) (unknown ps) (os ≡ ps)) where
+module _ (F : Type 0) (D : F → Type 0) (A : Type 0) (free : F → Bool) (unknown : List ℕ → Form F D A)
+    (unknown_alike : (os ps : List ℕ) → Agree {F = F} {D = D} {A = A} free (unknown os) (unknown ps) (os ≡ ps)) where
   -- the additions that it describes are the type's
   told_own : (xs all : List (Option (Form F D A))) → adding.Tells F D A free unknown unknown_alike xs all → length all ≡ length xs → all ≡ xs
   told_own [] [] t l = refl
@@ -43,7 +44,8 @@ abbrev unset : Per.BitForm → Per.BitForm
 unset x = varied Per.empty_bitmap false (λ e. only_if e x)
 
 module _ (free : Per.Freedom → Bool) (al : Bool) (ms : List Bool) (root : Per.BitForm) (xs : List (Option Per.BitForm)) where
-  same_bitmapped : (all : List (Option Per.BitForm)) (b : Bitmap) → covered_by (λ os. Per.counted_octets al os) b xs ≡ Some all → length all ≡ length xs → Per.bitmapped al ms root xs (Some b) ≡ Per.bitmapped al ms root xs (Some (own xs))
+  same_bitmapped : (all : List (Option Per.BitForm)) (b : Bitmap) → covered_by (λ os. Per.counted_octets al os) b xs ≡ Some all →
+      length all ≡ length xs → Per.bitmapped al ms root xs (Some b) ≡ Per.bitmapped al ms root xs (Some (own xs))
   unfolding Per.bitmapped
   same_bitmapped all b c l =
       let q = covers_its_own Per.Freedom Per.Detail Bool free (λ os. Per.counted_octets al os) (λ os ps. counted_octets_alike free al os ps) b xs all c l in
@@ -53,12 +55,15 @@ module _ (free : Per.Freedom → Bool) (al : Bool) (ms : List Bool) (root : Per.
   none_written : (p : ℕ) (w : List Bool) → is_any_present xs ≡ false → written (Per.bitmapped al ms root xs (Some (own xs))) p ≡ Some w → ⊥
   unfolding Per.bitmapped written
   none_written p w n e =
-      let q = ap (λ (o : Option (List (Option Per.BitForm))). written (given o (λ all. cond (is_any_present all) (Per.with_additions al ms root all) (unset (Per.with_additions al ms root all)))) p) (covers_own (λ os. Per.counted_octets al os) xs) in
+      let q = ap (λ (o : Option (List (Option Per.BitForm))). written
+      (given o (λ all. cond (is_any_present all) (Per.with_additions al ms root all) (unset (Per.with_additions al ms root all)))) p) (covers_own (λ os. Per.counted_octets al os) xs) in
       let m = ap (λ (t : Bool). written (cond t (Per.with_additions al ms root xs) (unset (Per.with_additions al ms root xs))) p) n in
       let z : None ≡ Some w = sym m ∙ sym q ∙ e in
       cc
 
-  pub packed_bitmaps : (all : List (Option Per.BitForm)) (b : Bitmap) (p : ℕ) (w : List Bool) → IsTrue (free Per.other_bitmap) → covered_by (λ os. Per.counted_octets al os) b xs ≡ Some all → length all ≡ length xs → ReadsAsWritten free (Per.bitmapped al ms root xs (Some b)) p w → ReadsAsWritten free (Per.sequence_form al true ms root xs) p w
+  pub packed_bitmaps : (all : List (Option Per.BitForm)) (b : Bitmap) (p : ℕ) (w : List Bool) → IsTrue (free Per.other_bitmap) →
+      covered_by (λ os. Per.counted_octets al os) b xs ≡ Some all → length all ≡ length xs →
+      ReadsAsWritten free (Per.bitmapped al ms root xs (Some b)) p w → ReadsAsWritten free (Per.sequence_form al true ms root xs) p w
   unfolding Per.sequence_form ReadsAsWritten written
   packed_bitmaps all b p w h c l r = (Some b, inr (h, alike (is_any_present xs) refl), r)
     where
@@ -71,7 +76,8 @@ abbrev unset_octets : Oer.OctetForm → Oer.OctetForm
 unset_octets x = varied Oer.empty_bitmap false (λ e. only_if e x)
 
 module _ (free : Oer.Freedom → Bool) (ms : List Bool) (root : Oer.OctetForm) (xs : List (Option Oer.OctetForm)) where
-  same_octets : (all : List (Option Oer.OctetForm)) (b : Bitmap) → covered_by Oer.counted b xs ≡ Some all → length all ≡ length xs → Oer.bitmapped ms root xs (Some b) ≡ Oer.bitmapped ms root xs (Some (own xs))
+  same_octets : (all : List (Option Oer.OctetForm)) (b : Bitmap) → covered_by Oer.counted b xs ≡ Some all → length all ≡ length xs →
+      Oer.bitmapped ms root xs (Some b) ≡ Oer.bitmapped ms root xs (Some (own xs))
   unfolding Oer.bitmapped
   same_octets all b c l =
       let q = covers_its_own Oer.Freedom Oer.Detail ℕ free Oer.counted (λ os ps. counted_alike free os ps) b xs all c l in
@@ -80,12 +86,14 @@ module _ (free : Oer.Freedom → Bool) (ms : List Bool) (root : Oer.OctetForm) (
   no_octets : (p : ℕ) (w : List ℕ) → is_any_present xs ≡ false → written (Oer.bitmapped ms root xs (Some (own xs))) p ≡ Some w → ⊥
   unfolding Oer.bitmapped written
   no_octets p w n e =
-      let q = ap (λ (o : Option (List (Option Oer.OctetForm))). written (given o (λ all. cond (is_any_present all) (Oer.with_additions ms root all) (unset_octets (Oer.with_additions ms root all)))) p) (covers_own Oer.counted xs) in
+      let q = ap (λ (o : Option (List (Option Oer.OctetForm))). written
+      (given o (λ all. cond (is_any_present all) (Oer.with_additions ms root all) (unset_octets (Oer.with_additions ms root all)))) p) (covers_own Oer.counted xs) in
       let m = ap (λ (t : Bool). written (cond t (Oer.with_additions ms root xs) (unset_octets (Oer.with_additions ms root xs))) p) n in
       let z : None ≡ Some w = sym m ∙ sym q ∙ e in
       cc
 
-  pub octet_bitmaps : (all : List (Option Oer.OctetForm)) (b : Bitmap) (p : ℕ) (w : List ℕ) → IsTrue (free Oer.other_bitmap) → covered_by Oer.counted b xs ≡ Some all → length all ≡ length xs → ReadsAsWritten free (Oer.bitmapped ms root xs (Some b)) p w → ReadsAsWritten free (Oer.sequence_form true ms root xs) p w
+  pub octet_bitmaps : (all : List (Option Oer.OctetForm)) (b : Bitmap) (p : ℕ) (w : List ℕ) → IsTrue (free Oer.other_bitmap) →
+      covered_by Oer.counted b xs ≡ Some all → length all ≡ length xs → ReadsAsWritten free (Oer.bitmapped ms root xs (Some b)) p w → ReadsAsWritten free (Oer.sequence_form true ms root xs) p w
   unfolding Oer.sequence_form ReadsAsWritten written
   octet_bitmaps all b p w h c l r = (Some b, inr (h, alike (is_any_present xs) refl), r)
     where

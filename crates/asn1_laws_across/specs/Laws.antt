@@ -55,8 +55,8 @@ OwnWidthIsCanonical =
     × (IsTrue (list_all is_octet w) → IsEncodingOfOwnWidth r s v w → canonical r s v ≡ Some w)
     × (IsEncodingInOrder r s v w → IsEncodingOfOwnWidth r s v w)
 
--- What a reader accepts is such octets, if each bitmap has the width of its type, the elements of each SET OF ascend, and
--- no other freedom of the reader is used: of strict PER it has no other.
+-- What a reader accepts is such octets, if each bitmap has the width of its type, the elements of each SET OF ascend,
+-- and no other freedom of the reader is used: of strict PER it has no other.
 abbrev pub ReadWithOwnWidth : Type 0
 ReadWithOwnWidth =
     (r : Rules) (s : Schema) (v : Value) (w : List ℕ) (h : IsEncoding r s v w) → HasOwnWidths r s v w h

@@ -59,8 +59,8 @@ Meets free may (varied c d f) p w h =
     (IsTrue (free c) → (h.0 ≡ d) ⊎ may (varied c d f) (f h.0)) × Meets free may (f h.0) p w h.2
 Meets free may (within x f) p w h = Meets free may x 0 h.0 h.1 × Meets free may (f h.0) p w h.2
 
--- In an encoding that the reader of these rules accepts, each bitmap of additions has the width of its type, the elements
--- of each SET OF ascend, and no other freedom of the reader is used.
+-- In an encoding that the reader of these rules accepts, each bitmap of additions has the width of its type, the
+-- elements of each SET OF ascend, and no other freedom of the reader is used.
 unfoldable pub HasOwnWidths : (r : Rules) (s : Schema) (v : Value) (w : List ℕ) → IsEncoding r s v w → Type 0
 unfolding IsEncoding
 HasOwnWidths uper s v w h = Meets lenient (IsAlikeHere false) (Per.message false s v) 0 (octet_bits w) h.1

@@ -55,7 +55,9 @@ same_ascending [] (d ∷ ds) h i f g = none_in d (g d (at_front d ds))
 same_ascending (c ∷ cs) [] h i f g = none_in c (f c (at_front c cs))
 same_ascending (c ∷ cs) (d ∷ ds) h i f g =
     let e = fronts (front_or_behind d ds c (f c (at_front c cs))) (front_or_behind c cs d (g d (at_front d ds))) in
-    let r = same_ascending cs ds (rest_ascends c cs h) (rest_ascends d ds i) (λ x k. behind e x (above_front c cs x h k) (front_or_behind d ds x (f x (behind_front c cs x k)))) (λ x k. also_behind e x (above_front d ds x i k) (front_or_behind c cs x (g x (behind_front d ds x k)))) in
+    let r = same_ascending cs ds (rest_ascends c cs h) (rest_ascends d ds i)
+    (λ x k. behind e x (above_front c cs x h k) (front_or_behind d ds x (f x (behind_front c cs x k))))
+    (λ x k. also_behind e x (above_front d ds x i k) (front_or_behind c cs x (g x (behind_front d ds x k)))) in
     ap (λ x. x ∷ cs) e ∙ ap (λ xs. d ∷ xs) r
   where
     fronts : (c ≡ d) ⊎ Contains ds c → (d ≡ c) ⊎ Contains cs d → c ≡ d

@@ -69,7 +69,8 @@ written_by choice (varied c d f) p = written_by choice (f (unwrap_or (choice c p
 written_by choice (within x f) p = option_and_then (λ w. written_by choice (f w) p) (written_by choice x 0)
 
 -- a reader reads what is written by choices that it is free to accept
-pub reads_written_by : {F : Type 0} {D : F → Type 0} {A : Type 0} (free : F → Bool) (choice : (c : F) → ℕ → Option (D c)) (x : Form F D A) (p : ℕ) (w : List A) → ((c : F) (p : ℕ) (d : D c) → choice c p ≡ Some d → IsTrue (free c)) → written_by choice x p ≡ Some w → Reads free x p w
+pub reads_written_by : {F : Type 0} {D : F → Type 0} {A : Type 0} (free : F → Bool) (choice : (c : F) → ℕ → Option (D c)) (x : Form F D A) (p : ℕ)
+    (w : List A) → ((c : F) (p : ℕ) (d : D c) → choice c p ≡ Some d → IsTrue (free c)) → written_by choice x p ≡ Some w → Reads free x p w
 unfolding Reads written_by
 reads_written_by free choice (exactly l) p w h e = cc
 reads_written_by free choice refused p w h e = cc

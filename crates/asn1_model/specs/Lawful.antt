@@ -187,7 +187,7 @@ unfoldable mutual
   are_lawful no_component = true
   are_lawful (component t o s cs) = are_tags_of t s && has_typed_default s o && is_lawful s && are_lawful cs
 
-  -- Whether the types of all alternatives are well-formed, and their tags are valid.
+  -- Whether the types of all alternatives are well-formed, their tags are valid, and none is a group.
   pub are_lawful_alternatives : Alternatives → Bool
   are_lawful_alternatives no_alternative = true
   are_lawful_alternatives (alternative t s others) =

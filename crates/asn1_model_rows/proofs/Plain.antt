@@ -66,7 +66,8 @@ is_text same None w = false
 is_text same (Some l) w = pointwise same l w
 
 -- so an encoding other than the canonical one is not read
-not_read : {F : Type 0} {D : F → Type 0} {A : Type 0} (same : A → A → Bool) (h : (l : List A) → pointwise same l l ≡ true) (free : F → Bool) (x : Form F D A) (w : List A) → is_plain free x 0 ≡ true → is_text same (written x 0) w ≡ false → Reads free x 0 w → ⊥
+not_read : {F : Type 0} {D : F → Type 0} {A : Type 0} (same : A → A → Bool) (h : (l : List A) → pointwise same l l ≡ true) (free : F → Bool)
+    (x : Form F D A) (w : List A) → is_plain free x 0 ≡ true → is_text same (written x 0) w ≡ false → Reads free x 0 w → ⊥
 not_read same h free x w p n r = let e : is_text same (written x 0) w ≡ true = rw (plain_reads free x 0 w p r) (h w) in let q : false ≡ true = subst (λ b. b ≡ true) n e in cc
 
 pub bits_not_read : {F : Type 0} {D : F → Type 0} (free : F → Bool) (x : Form F D Bool) (w : List Bool) → is_plain free x 0 ≡ true → is_text same_truth (written x 0) w ≡ false → Reads free x 0 w → ⊥

@@ -175,7 +175,7 @@ FormRows =
     (written (Per.fragments false (0 ∷ []) []) 0 ≡ None)
     × (written (Per.fragments false (5 ∷ []) (replicate 81920 (exactly []))) 0 ≡ None)
     × (written (Per.fragments false (1 ∷ []) (replicate 16383 (exactly []))) 0 ≡ None)
-    -- a number of the aligned variant in no octets, and in more than its range has
+    -- a number of the aligned variant in no octets, in more than its range has, and in fewer than it needs
     × (written (Per.in_octets_of (Per.constrained true) true 1234311 0 0) 0 ≡ None)
     × (written (Per.in_octets_of (Per.constrained true) true 1234311 0 4) 0 ≡ None)
     × (written (Per.in_octets_of (Per.constrained true) true 1234311 256 1) 0 ≡ None)

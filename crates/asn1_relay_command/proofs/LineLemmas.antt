@@ -1,5 +1,6 @@
 -- What a writer holds after some texts.
-use Rattle.std.proofs.Common.{◌≡◌, ◌∙◌, ℕ, ◌+◌, ◌<◌, zero, suc, List, [], ◌∷◌, ◌++◌, length, take, drop, slice_index_or, Option, Some, None, codes, refl, sym, ap, ap₂, subst, append_assoc, add-one, arith}
+use Rattle.std.proofs.Common.{◌≡◌, ◌∙◌, ℕ, ◌+◌, ◌<◌, zero, suc, List, [], ◌∷◌, ◌++◌, length, take, drop, slice_index_or}
+use Rattle.std.proofs.Common.{Option, Some, None, codes, refl, sym, ap, ap₂, subst, append_assoc, add-one, arith}
 use Rattle.std.specs.Borrow.{Bor}
 use Rattle.std.specs.Io.KnownBytes.{Appends}
 use Rattle.std.proofs.KnownBytes.{Appends-trans}
@@ -26,7 +27,8 @@ joined_split [] (suc n) = refl
 joined_split (p ∷ ps) zero = refl
 joined_split (p ∷ ps) (suc n) = ap (λ l. p.now ++ l) (joined_split ps n) ∙ sym (append_assoc p.now (joined (take n ps)) (joined (drop n ps)))
 
-module _ (a b c : Option (List ℕ)) (ps : Texts) (n : ℕ) (d : Bor (List ℕ)) (text : List ℕ) (within : n < length ps) (is : text ≡ (slice_index_or ps n d).now) (before : Appends a b (joined (take n ps))) where
+module _ (a b c : Option (List ℕ)) (ps : Texts) (n : ℕ) (d : Bor (List ℕ)) (text : List ℕ) (within : n < length ps)
+    (is : text ≡ (slice_index_or ps n d).now) (before : Appends a b (joined (take n ps))) where
   further : joined (take (n + 1) ps) ≡ joined (take n ps) ++ text
   further = ap (λ k. joined (take k ps)) (add-one n) ∙ joined_more ps n d within ∙ ap (λ l. joined (take n ps) ++ l) (sym is)
 

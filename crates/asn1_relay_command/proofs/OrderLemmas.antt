@@ -1,5 +1,7 @@
 -- What a command line requests, from the result of a parse.
-use Rattle.std.proofs.Common.{◌≡◌, ◌∙◌, ◌⊎◌, ◌<◌, ◌≤◌, inl, inr, arith, subst, ℕ, Bool, not, true, false, List, [], ◌∷◌, Option, Some, None, option_map, option_and_then, refl, sym, ap, ap₂, codes, if◌then◌else◌, ◌++◌, ◌+◌, zero, suc, length, slice_index_or, add-one, append_assoc, drop}
+use Rattle.std.proofs.Common.{◌≡◌, ◌∙◌, ◌⊎◌, ◌<◌, ◌≤◌, inl, inr, arith, subst, ℕ, Bool, not, true, false, List, [], ◌∷◌}
+use Rattle.std.proofs.Common.{Option, Some, None, option_map, option_and_then, refl, sym, ap, ap₂, codes, if◌then◌else◌}
+use Rattle.std.proofs.Common.{◌++◌, ◌+◌, zero, suc, length, slice_index_or, add-one, append_assoc, drop}
 use Rattle.std.specs.Borrow.{Bor}
 use Rattle.clap.specs.Walk.{texts}
 use Rattle.std.proofs.lemmas.List.{append-nil}
@@ -23,7 +25,10 @@ use Rattle.clap.specs.declared.builder.command.Command.TheViews.{out-Command}
 use Rattle.clap.proofs.WalkLemmas.{both, first_value-rows, one_text-rows, raw_values-rows}
 use Rattle.clap.specs.Matches.{matched_of, raw_values}
 use Rattle.clap.proofs.OnLiterals.{clap_on_literals}
-use Rattle.asn1_relay_command.specs.Orders.{limit_by_text, limit_in_rows, once_in_rows, asked_by, task_in_command, program_app, stream_in_rows, translation_by_names, translation_in_rows, unless_fault, Task, once, stream, route_by_names, route_in_rows, hop_by_name, hops_by_names, hops_in_rows}
+use Rattle.asn1_relay_command.specs.Orders.{limit_by_text, limit_in_rows, once_in_rows, asked_by, task_in_command}
+use Rattle.asn1_relay_command.specs.Orders.{program_app, stream_in_rows, translation_by_names, translation_in_rows}
+use Rattle.asn1_relay_command.specs.Orders.{unless_fault, Task, once, stream, route_by_names, route_in_rows}
+use Rattle.asn1_relay_command.specs.Orders.{hop_by_name, hops_by_names, hops_in_rows}
 use Rattle.asn1_relay_core.specs.declared.hop.Hop.{Hop}
 use Rattle.asn1_relay_command.specs.declared.order.Translation.{Translation}
 
@@ -53,7 +58,8 @@ bad_words a words e same kinds =
     ]
 
 -- matches determine what the words request
-pub words_ask : (a : App) (words : List Text) (m : ArgMatches) (task : Option Task) → a ≡ program_app → HasMatchesOf a words m → (is_simple_and_free a ≡ true → fault_of a words ≡ []) → task ≡ task_in_command (subcommand_rows_of m) → asked_by words ≡ task
+pub words_ask : (a : App) (words : List Text) (m : ArgMatches) (task : Option Task) → a ≡ program_app → HasMatchesOf a words m →
+    (is_simple_and_free a ≡ true → fault_of a words ≡ []) → task ≡ task_in_command (subcommand_rows_of m) → asked_by words ≡ task
 unfolding asked_by
 words_ask a words m task same matches kinds asked =
     let faultless : fault_of program_app words ≡ [] = ap (λ (b : App). fault_of b words) (sym same) ∙ kinds (ap is_simple_and_free same ∙ simple_and_free) in
@@ -71,7 +77,8 @@ translation_rows f =
 pub limit_rows : (f : Found) → option_and_then limit_by_text (one_text f (codes "limit")) ≡ limit_in_rows (rows_of f)
 limit_rows f = ap (option_and_then limit_by_text) (one_text-rows f (codes "limit"))
 
-pub once_rows : (f : Found) (t : Option Translation) → t ≡ translation_by_names (first_value f (codes "from")) (first_value f (codes "to")) (first_value f (codes "type")) → option_map once t ≡ once_in_rows (rows_of f)
+pub once_rows : (f : Found) (t : Option Translation) → t ≡ translation_by_names (first_value f (codes "from")) (first_value f (codes "to"))
+    (first_value f (codes "type")) → option_map once t ≡ once_in_rows (rows_of f)
 once_rows f t e = ap (option_map once) (e ∙ translation_rows f)
 
 with_limit : Option Translation → Option ℕ → Option Task

@@ -78,7 +78,11 @@ record IsUnfolded (old new : Schema) (from : Rules) (w : List ℕ) (s t : Schema
 module _ (old new : Schema) (k : IsTidy old) (l : IsTidy new) (from : Rules) (hops : List Hop) (w : List ℕ) (some : hops ≢ []) (s t : Schema) (v : Value) (c : IsUnfolded old new from w s t v) where
   -- what becomes of the octets follows from the value
   told_of : (o : Outcome) → IsOutcome s t from hops w o → IsTold s t from hops v o
-  told_of (arrived out) p = (arrives_free s t c.is_lawful_older c.is_lawful_newer c.extends v from hops w c.is_encoding out p, arrives_last s t c.is_lawful_older c.is_lawful_newer c.extends v from hops w c.is_encoding some out p)
+  told_of (arrived out) p = (
+    arrives_free s t c.is_lawful_older c.is_lawful_newer c.extends v from hops w c.is_encoding out p,
+    arrives_last s t c.is_lawful_older
+        c.is_lawful_newer c.extends v from hops w c.is_encoding some out p,
+  )
   told_of (refused i a) p = refuses_fails s t c.is_lawful_older c.is_lawful_newer c.extends v from hops w c.is_encoding i a p
 
   -- and vice versa
@@ -86,7 +90,8 @@ module _ (old new : Schema) (k : IsTidy old) (l : IsTidy new) (from : Rules) (ho
   of_told (arrived out) p = last (free_arrives s t c.is_lawful_older c.is_lawful_newer c.extends v from hops w c.is_encoding p.0)
     where
       last : (x : List ℕ) × Arrives s t from hops w x → Arrives s t from hops w out
-      last x = subst (λ y. Arrives s t from hops w y) (last_once s t v (at_first from) hops x.0 out (arrives_last s t c.is_lawful_older c.is_lawful_newer c.extends v from hops w c.is_encoding some x.0 x.1) p.1) x.1
+      last x = subst (λ y. Arrives s t from hops w y) (last_once s t v (at_first from) hops x.0 out
+          (arrives_last s t c.is_lawful_older c.is_lawful_newer c.extends v from hops w c.is_encoding some x.0 x.1) p.1) x.1
   of_told (refused i a) p = fails_refuses s t c.is_lawful_older c.is_lawful_newer c.extends v (at_first from) hops w i a c.is_encoding p
 
   alike : (o : Outcome) → IsOutcome old new from hops w o → IsOutcome s t from hops w o
@@ -100,7 +105,9 @@ module _ (old new : Schema) (k : IsTidy old) (l : IsTidy new) (from : Rules) (ho
   only_unfolded None r o p = inl refl
   only_unfolded (Some x) r o p = inr (ap Some (one_outcome s t c.is_lawful_older c.is_lawful_newer from hops w x o (alike x r) (of_told o p)))
 
-module _ (old new : ℕ → Schema) (k : (n : ℕ) → IsLawful (old n)) (l : (n : ℕ) → IsLawful (new n)) (i : (n : ℕ) → IsTidy (old n)) (j : (n : ℕ) → IsTidy (new n)) (x : ExtendsFrom 128 old new) (y : Unfolds old) (z : Unfolds new) (from : Rules) (hops : List Hop) (w : List ℕ) (some : hops ≢ []) (n : ℕ) (v : Value) (c : (128 ≤ n) × (canonical from (new n) v ≡ Some w)) where
+module _ (old new : ℕ → Schema) (k : (n : ℕ) → IsLawful (old n)) (l : (n : ℕ) → IsLawful (new n)) (i : (n : ℕ) → IsTidy (old n))
+    (j : (n : ℕ) → IsTidy (new n)) (x : ExtendsFrom 128 old new) (y : Unfolds old) (z : Unfolds new) (from : Rules) (hops : List Hop) (w : List ℕ)
+    (some : hops ≢ []) (n : ℕ) (v : Value) (c : (128 ≤ n) × (canonical from (new n) v ≡ Some w)) where
   unfolded : IsUnfolded (old 128) (new 128) from w (old n) (new n) v
   unfolded =
       let h : 128 ≤ 128 = omega arith in

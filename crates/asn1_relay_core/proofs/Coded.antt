@@ -1,5 +1,7 @@
 -- What was read and written is the result for a message.
-use Rattle.std.proofs.Common.{◌≡◌, ◌≢◌, ◌≤◌, ◌⊎◌, inl, inr, ℕ, ◌==◌, true, false, length, List, [], ◌∷◌, ◌++◌, Option, Some, None, option_and_then, Result, Ok, Err, Vec, Global, IfSome, refl, sym, ◌∙◌, ap, subst, arith}
+use Rattle.std.proofs.Common.{◌≡◌, ◌≢◌, ◌≤◌, ◌⊎◌, inl, inr, ℕ, ◌==◌, true, false, length, List, [], ◌∷◌, ◌++◌, Option}
+use Rattle.std.proofs.Common.{Some, None, option_and_then, Result, Ok, Err, Vec, Global, IfSome, refl, sym, ◌∙◌, ap}
+use Rattle.std.proofs.Common.{subst, arith}
 use Rattle.std.proofs.lemmas.Bool.{eqb-true}
 use Rattle.std.proofs.lemmas.List.{append-nil}
 use Rattle.asn1_model.specs.Schema.{Schema}
@@ -17,7 +19,9 @@ use Rattle.asn1_relay_core.specs.declared.codec.Codec.{Codec}
 use Rattle.asn1_relay_core.specs.declared.translation.RecodeFault.{RecodeFault}
 use Rattle.asn1_relay_core.specs.declared.translation.RecodeFault.TheVariants.{NotAnEncoding, Surplus, NoTarget, Memory}
 use Rattle.asn1_relay_core.specs.Coding.{rules_of, IsWritten, NotWritten}
-use Rattle.asn1_relay_core.specs.Recoding.{IsMessage, Answer, answered, not_an_encoding, surplus, no_target, IsAnswer, NamesMemoryAlone, NamesNoEarlierRefusal, NamesNoMisplacedCall, NamesNoPlatformSize, answer_of, source_fault_of, target_fault_of}
+use Rattle.asn1_relay_core.specs.Recoding.{IsMessage, Answer, answered, not_an_encoding, surplus, no_target, IsAnswer}
+use Rattle.asn1_relay_core.specs.Recoding.{NamesMemoryAlone, NamesNoEarlierRefusal, NamesNoMisplacedCall}
+use Rattle.asn1_relay_core.specs.Recoding.{NamesNoPlatformSize, answer_of, source_fault_of, target_fault_of}
 use Rattle.asn1_laws_versions.proofs.Answers.{one_answer}
 
 module _ (source target : Rules) (schema : ℕ → Schema) (v : Value) (input rest : List ℕ) (t : Tells source schema v input rest) where
@@ -47,7 +51,8 @@ module _ (source target : Rules) (schema : ℕ → Schema) (v : Value) (input re
   pub is_surplus : rest ≢ [] → IsAnswer source target (schema 128) input surplus
   is_surplus n = (t.message.message, rest, t.raw, t.message.in_front, n, (t.message.encoding, t.message.levels))
 
-pub is_no_encoding : (source target : Rules) (schema : ℕ → Schema) (input : List ℕ) → ((v : Value) (rest : List ℕ) → HasMessage source (schema 128) v input rest → ⊥) → IsAnswer source target (schema 128) input not_an_encoding
+pub is_no_encoding : (source target : Rules) (schema : ℕ → Schema) (input : List ℕ) →
+    ((v : Value) (rest : List ℕ) → HasMessage source (schema 128) v input rest → ⊥) → IsAnswer source target (schema 128) input not_an_encoding
 is_no_encoding source target schema input h front behind v e m = h v behind (record { message = front; in_front = e; encoding = m.0; levels = m.1 })
 
 -- ---- what was returned is right, and nothing else is

@@ -12,7 +12,7 @@ use Rattle.asn1_relay_core.specs.declared.fault.RelayFault.{RelayFault}
 use Rattle.asn1_relay_core.specs.declared.fault.RelayFaultKind.{RelayFaultKind}
 use Rattle.asn1_relay_core.specs.declared.fault.RelayFaultKind.TheVariants as kind
 use Rattle.asn1_relay_core.specs.Relaying.{Relaying, capped, kind_of_stop, onwards, IsFed, FaultOf}
-use Rattle.asn1_relay_core.specs.Fronts.{Awaits, RelaysOne}
+use Rattle.asn1_relay_core.specs.Attempts.{Awaits, RelaysOne}
 
 -- no octets begin with no message
 pub none_of_none : (r : Rules) (s : Schema) (limit : ℕ) → HasNoMessage r s limit []
@@ -46,7 +46,14 @@ module _ (s : Schema) (old : Relaying) (piece before : List ℕ) where
   begun now after e n g =
       let u : now.unread ≡ old.unread ++ piece = ap (λ r. r.unread) e in
       let c : old.number ≡ capped (old.number + 0) = omega arith in
-      record { messages = []; written = []; front = (refl, u); grows = g ∙ sym (append-nil before); is = e ∙ (ap (λ l. onwards old l old.number false) (sym u) ∙ ap (λ i. onwards old now.unread i false) c) }
+      record {
+        messages = [];
+        written = [];
+        front = (refl, u);
+        grows = g ∙ sym (append-nil before);
+        is = e ∙
+            (ap (λ l. onwards old l old.number false) (sym u) ∙ ap (λ i. onwards old now.unread i false) c);
+      }
 
   -- nothing more is written
   pub grown_alike : (now : Relaying) (after later : List ℕ) → SoFar s old now piece before after → later ≡ after → SoFar s old now piece before later
@@ -60,25 +67,48 @@ module _ (s : Schema) (old : Relaying) (piece before : List ℕ) where
     here : (P : Rules → Rules → ℕ → Type 0) → Here P now → Here P old
     here P p = subst (Here P) h.is p
 
-    pub one_more : (next : Relaying) (later : List ℕ) (count : ℕ) → RelaysOne (rules_of now.from) (rules_of now.to) s now.limit now.unread after later count → next ≡ onwards now (drop count now.unread) (min (now.number + 1) most) now.failed → SoFar s old next piece before later
+    pub one_more : (next : Relaying) (later : List ℕ) (count : ℕ) →
+        RelaysOne (rules_of now.from) (rules_of now.to) s now.limit now.unread after later count →
+        next ≡ onwards now (drop count now.unread) (min (now.number + 1) most) now.failed → SoFar s old next piece before later
     one_more next later count given e =
         let one : RelaysOne (rules_of old.from) (rules_of old.to) s old.limit now.unread after later count = here (λ a b l. RelaysOne a b s l now.unread after later count) given in
         let m = one.message in
-        let d : drop count now.unread ≡ one.rest = subst (λ n. drop n now.unread ≡ one.rest) one.counted (subst (λ l. drop (length m.octets) l ≡ one.rest) one.in_front (drop-append_seam m.octets one.rest)) in
+        let d : drop count now.unread ≡ one.rest = subst (λ n. drop n now.unread ≡ one.rest) one.counted
+        (subst (λ l. drop (length m.octets) l ≡ one.rest) one.in_front (drop-append_seam m.octets one.rest)) in
         let u : next.unread ≡ one.rest = ap (λ r. r.unread) e ∙ d in
-        let f : Front (h.messages ++ m ∷ []) (h.written ++ one.written) one.rest = joins (rules_of old.from) (rules_of old.to) s old.limit h.messages (m ∷ []) h.written one.written now.unread one.rest (old.unread ++ piece) h.front (one.is_message, one.rest, one.in_front, one.written, one.translated, one.is_some, [], append-nil one.written, (refl, refl)) in
+        let f : Front (h.messages ++ m ∷ []) (h.written ++ one.written) one.rest =
+        joins (rules_of old.from) (rules_of old.to) s old.limit h.messages (m ∷ []) h.written one.written now.unread one.rest
+        (old.unread ++ piece) h.front (one.is_message, one.rest, one.in_front, one.written, one.translated, one.is_some, [], append-nil one.written, (refl, refl)) in
         let k : now.number ≡ capped (old.number + length h.messages) = ap (λ r. r.number) h.is in
         let l : length (h.messages ++ m ∷ []) ≡ length h.messages + 1 = length-append h.messages (m ∷ []) in
         let n : min (now.number + 1) most ≡ capped (old.number + length (h.messages ++ m ∷ [])) = omega arith in
-        let i : onwards now (drop count now.unread) (min (now.number + 1) most) now.failed ≡ onwards old next.unread (min (now.number + 1) most) false = ap (λ r. onwards r (drop count now.unread) (min (now.number + 1) most) r.failed) h.is ∙ ap (λ w. onwards old w (min (now.number + 1) most) false) (d ∙ sym u) in
-        record { messages = h.messages ++ m ∷ []; written = h.written ++ one.written; front = subst (λ r. Front (h.messages ++ m ∷ []) (h.written ++ one.written) r) (sym u) f; grows = one.grows ∙ (ap (λ w. w ++ one.written) h.grows ∙ append_assoc before h.written one.written); is = e ∙ (i ∙ ap (λ j. onwards old next.unread j false) n) }
+        let i : onwards now (drop count now.unread) (min (now.number + 1) most) now.failed ≡ onwards old next.unread (min (now.number + 1) most)
+        false = ap (λ r. onwards r (drop count now.unread) (min (now.number + 1) most) r.failed) h.is ∙ ap (λ w. onwards old w (min (now.number + 1) most) false) (d ∙ sym u) in
+        record {
+          messages = h.messages ++ m ∷ [];
+          written = h.written ++ one.written;
+          front =
+              subst (λ r. Front (h.messages ++ m ∷ []) (h.written ++ one.written) r) (sym u) f;
+          grows = one.grows ∙
+              (ap (λ w. w ++ one.written) h.grows ∙ append_assoc before h.written one.written);
+          is = e ∙ (i ∙ ap (λ j. onwards old next.unread j false) n);
+        }
 
     -- ---- the ends of a call
 
     pub fed : old.failed ≡ false → StopsAt (rules_of now.from) (rules_of now.to) s now.limit now.unread None → IsFed s old now piece before after
     fed had given =
         let w : StopsAt (rules_of old.from) (rules_of old.to) s old.limit now.unread None = here (λ a b l. StopsAt a b s l now.unread None) given in
-        record { had_not = had; count = length h.messages; written = h.written; relays = record { messages = h.messages; counted = refl; front = h.front; stops = w }; grows = h.grows; goes_on = h.is; within = few w.1 }
+        record {
+          had_not = had;
+          count = length h.messages;
+          written = h.written;
+          relays =
+              record { messages = h.messages; counted = refl; front = h.front; stops = w };
+          grows = h.grows;
+          goes_on = h.is;
+          within = few w.1;
+        }
       where
         few : (now.unread ≡ []) ⊎ (¬ (HasEmptyMessage (rules_of old.from) s) × (length now.unread ≤ old.limit)) → length now.unread ≤ old.limit
         few (inl e) = let l = ap length e in omega arith
@@ -97,11 +127,26 @@ module _ (s : Schema) (old : Relaying) (piece before : List ℕ) where
       fault_as : (j : RelayFaultKind) → k ≡ j → fault ≡ record { number = capped (old.number + length h.messages); kind = j }
       fault_as j e = is ∙ (ap (λ i. record { number = i; kind = k }) number ∙ ap (λ x. record { number = capped (old.number + length h.messages); kind = x }) e)
 
-      pub stopped : old.failed ≡ false → (k ≡ kind.Memory) ⊎ ((why : Stop) × (k ≡ kind_of_stop why) × StopsAt (rules_of now.from) (rules_of now.to) s now.limit now.unread (Some why)) → FaultOf s old new piece before after fault
-      stopped had (inl e) = inr (inr (had, record { messages = h.messages; written = h.written; rest = now.unread; relays = h.front; grows = h.grows; is = fault_as kind.Memory e; stops = stopped_as }))
+      pub stopped : old.failed ≡ false → (k ≡ kind.Memory) ⊎ ((why : Stop) × (k ≡ kind_of_stop why) ×
+          StopsAt (rules_of now.from) (rules_of now.to) s now.limit now.unread (Some why)) → FaultOf s old new piece before after fault
+      stopped had (inl e) = inr
+          (inr (had, record { messages = h.messages; written = h.written; rest = now.unread; relays = h.front; grows = h.grows; is = fault_as kind.Memory e; stops = stopped_as }))
       stopped had (inr y) =
           let w : StopsAt (rules_of old.from) (rules_of old.to) s old.limit now.unread (Some y.0) = here (λ a b l. StopsAt a b s l now.unread (Some y.0)) y.2 in
-          inr (inl (had, y.0, record { count = length h.messages; written = h.written; rest = now.unread; relays = record { messages = h.messages; counted = refl; front = h.front; stops = w }; grows = h.grows; is = fault_as (kind_of_stop y.0) y.1; stops = stopped_as }))
+          inr (inl (
+            had,
+            y.0,
+            record {
+              count = length h.messages;
+              written = h.written;
+              rest = now.unread;
+              relays =
+                  record { messages = h.messages; counted = refl; front = h.front; stops = w };
+              grows = h.grows;
+              is = fault_as (kind_of_stop y.0) y.1;
+              stops = stopped_as;
+            },
+          ))
 
 -- a relay that waits for more octets than are unread
 pub waited : (s : Schema) (old now : Relaying) (piece before : List ℕ) (awaited : ℕ) → old.failed ≡ false → now ≡ onwards old (old.unread ++ piece) old.number false → old.number ≤ most

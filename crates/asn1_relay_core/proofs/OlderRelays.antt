@@ -73,7 +73,8 @@ module _ (s t : Schema) (k : IsTidy s) (l : IsTidy t) (h : AgreesTo 128 s t) (so
 -- ---- what follows from the values
 
 module _ (old new : ℕ → Schema) (k : (n : ℕ) → IsLawful (old n)) (l : (n : ℕ) → IsLawful (new n)) (i : (n : ℕ) → IsTidy (old n)) (x : ExtendsFrom 128 old new) (y : Unfolds old) where
-  pub older_told : (source target : Rules) (limit n number : ℕ) (vs : List Value) (w out rest : List ℕ) (why : Option Stop) → 128 ≤ n → AreJoined source (new n) vs w → Relays source target (old 128) limit w number out rest why
+  pub older_told : (source target : Rules) (limit n number : ℕ) (vs : List Value) (w out rest : List ℕ) (why : Option Stop) → 128 ≤ n →
+      AreJoined source (new n) vs w → Relays source target (old 128) limit w number out rest why
       → (halt : Option Halt) × RelaysOlder source target (old n) (new n) limit vs w number out rest halt × IsEnd source target (old n) (new n) limit rest halt why
   older_told source target limit n number vs w out rest why h j q =
       let b : 128 ≤ 128 = omega arith in

@@ -1,6 +1,8 @@
 -- What becomes of a message on a route: one outcome at most, and the outcome of the remaining hops is that of the whole
 -- route.
-use Rattle.std.proofs.Common.{◌≡◌, ◌≢◌, ◌⊎◌, inl, inr, ℕ, suc, ◌+◌, ◌<◌, ◌≤◌, List, [], ◌∷◌, length, drop, get_or, Option, Some, None, IfSome, option_map, Result, Ok, Err, IsErrAnd, Vec, refl, sym, ◌∙◌, ap, subst, add-one, drop-cons, arith}
+use Rattle.std.proofs.Common.{◌≡◌, ◌≢◌, ◌⊎◌, inl, inr, ℕ, suc, ◌+◌, ◌<◌, ◌≤◌, List, [], ◌∷◌, length, drop, get_or}
+use Rattle.std.proofs.Common.{Option, Some, None, IfSome, option_map, Result, Ok, Err, IsErrAnd, Vec, refl, sym, ◌∙◌}
+use Rattle.std.proofs.Common.{ap, subst, add-one, drop-cons, arith}
 use Rattle.std.proofs.lemmas.List.{drop_all}
 use Rattle.asn1_model.specs.Schema.{Schema}
 use Rattle.asn1_model.specs.Lawful.{IsLawful}
@@ -20,7 +22,8 @@ use Rattle.asn1_relay_core.specs.declared.hop.Version.TheVariants.{Old}
 use Rattle.asn1_relay_core.specs.Routing.{hop_of, hops_of, Outcome, arrived, refused, IsOutcome, Reaches, answer_of_kind, outcome_of}
 
 -- Two outcomes that are right are equal.
-pub one_outcome : (old new : Schema) → IsLawful old → IsLawful new → (from : Rules) (hops : List Model.Hop) (w : List ℕ) (x y : Outcome) → IsOutcome old new from hops w x → IsOutcome old new from hops w y → x ≡ y
+pub one_outcome : (old new : Schema) → IsLawful old → IsLawful new → (from : Rules) (hops : List Model.Hop) (w : List ℕ) (x y : Outcome) →
+    IsOutcome old new from hops w x → IsOutcome old new from hops w y → x ≡ y
 one_outcome old new k l from hops w (arrived x) (arrived y) p q = ap arrived (arrives_once old new k l from hops w x y p q)
 one_outcome old new k l from hops w (arrived x) (refused j b) p q = absurd (not_both old new k l from hops w x j b p q)
 one_outcome old new k l from hops w (refused i a) (arrived y) p q = absurd (not_both old new k l from hops w y i a q p)
@@ -41,7 +44,8 @@ pub record HasPassed (old new : Schema) (from : Rules) (all : List Model.Hop) (i
 
 module _ (old new : Schema) (from : Rules) (all : List Model.Hop) (input : List ℕ) where
   -- one more hop
-  pub one_more : (rules : Rules) (h : Model.Hop) (left : List Model.Hop) (octets x : List ℕ) (i : ℕ) → HasPassed old new from all input rules (h ∷ left) octets i → HopAnswers old new rules h octets (answered x) → HasPassed old new from all input h.to left x (i + 1)
+  pub one_more : (rules : Rules) (h : Model.Hop) (left : List Model.Hop) (octets x : List ℕ) (i : ℕ) →
+      HasPassed old new from all input rules (h ∷ left) octets i → HopAnswers old new rules h octets (answered x) → HasPassed old new from all input h.to left x (i + 1)
   one_more rules h left octets x i p a = record {
     outcome = λ o. at o;
     reaches = λ j r. subst (λ n. Reaches old new from all input n) (let z : i + suc j ≡ (i + 1) + j = omega arith in z) (p.reaches (suc j) (x, a, r));
@@ -76,7 +80,8 @@ pub some_model_hop : (hops : List Hop) → hops ≢ [] → hops_of hops ≢ []
 some_model_hop [] n e = n refl
 some_model_hop (h ∷ hops) n e = cc
 
-as_err : {X : Type 0} (P : Outcome → Type 0) (r : Result (Vec ℕ X) RouteFault) (f : RouteFault) → IsErrAnd r (λ y. y ≡ f) → IfSome (option_map (λ a. refused f.hop a) (answer_of_kind f.kind)) P → IfSome (outcome_of r) P
+as_err : {X : Type 0} (P : Outcome → Type 0) (r : Result (Vec ℕ X) RouteFault) (f : RouteFault) → IsErrAnd r (λ y. y ≡ f) →
+    IfSome (option_map (λ a. refused f.hop a) (answer_of_kind f.kind)) P → IfSome (outcome_of r) P
 as_err P (Ok x) f e q = absurd e
 as_err P (Err y) f e q = subst (λ y. IfSome (option_map (λ a. refused y.hop a) (answer_of_kind y.kind)) P) (sym e) q
 
@@ -93,7 +98,8 @@ module _ (old new : Schema) (from : Codec) (hops : List Hop) (input : List ℕ) 
   abbrev at_place : ℕ → Hop
   at_place i = get_or hops i any_hop
 
-  next_is : (rules : Codec) (octets : List ℕ) (i : ℕ) → i < length hops → PassedBy rules octets i → HasPassed old new (rules_of from) (hops_of hops) input (rules_of rules) (hop_of (at_place i) ∷ hops_of (drop (i + 1) hops)) octets i
+  next_is : (rules : Codec) (octets : List ℕ) (i : ℕ) → i < length hops → PassedBy rules octets i →
+      HasPassed old new (rules_of from) (hops_of hops) input (rules_of rules) (hop_of (at_place i) ∷ hops_of (drop (i + 1) hops)) octets i
   next_is rules octets i l p =
       let q : drop i hops ≡ at_place i ∷ drop (i + 1) hops = drop-cons hops i any_hop l ∙ ap (λ n. at_place i ∷ drop n hops) (sym (add-one i)) in
       subst (λ left. HasPassed old new (rules_of from) (hops_of hops) input (rules_of rules) (hops_of left) octets i) q p
@@ -103,7 +109,8 @@ module _ (old new : Schema) (from : Codec) (hops : List Hop) (input : List ℕ) 
 
   pub all_passed : (rules : Codec) (octets : List ℕ) (i : ℕ) → length hops ≤ i → PassedBy rules octets i → Arrives old new (rules_of from) (hops_of hops) input octets
   all_passed rules octets i l p =
-      let q : HasPassed old new (rules_of from) (hops_of hops) input (rules_of rules) [] octets i = subst (λ left. HasPassed old new (rules_of from) (hops_of hops) input (rules_of rules) (hops_of left) octets i) (drop_all i hops l) p in
+      let q : HasPassed old new (rules_of from) (hops_of hops) input (rules_of rules) [] octets i =
+      subst (λ left. HasPassed old new (rules_of from) (hops_of hops) input (rules_of rules) (hops_of left) octets i) (drop_all i hops l) p in
       q.outcome (arrived octets) refl
 
   module _ (rules : Codec) (octets : List ℕ) (i : ℕ) (l : i < length hops) (p : PassedBy rules octets i) (read : List ℕ) (is_read : read ≡ octets) where
@@ -113,7 +120,8 @@ module _ (old new : Schema) (from : Codec) (hops : List Hop) (input : List ℕ) 
 
     -- it returns octets
     pub next_passed : (x : List ℕ) → Answers (answered x) → PassedBy (at_place i).to x (i + 1)
-    next_passed x a = one_more old new (rules_of from) (hops_of hops) input (rules_of rules) (hop_of (at_place i)) (hops_of (drop (i + 1) hops)) octets x i (next_is rules octets i l p) (subst (λ w. HopAnswers old new (rules_of rules) (hop_of (at_place i)) w (answered x)) is_read a)
+    next_passed x a = one_more old new (rules_of from) (hops_of hops) input (rules_of rules) (hop_of (at_place i)) (hops_of (drop (i + 1) hops))
+        octets x i (next_is rules octets i l p) (subst (λ w. HopAnswers old new (rules_of rules) (hop_of (at_place i)) w (answered x)) is_read a)
 
     -- it rejects them
     stops : (a : Answer) → IsRefusal a → Answers a → RefusesAt old new (rules_of from) (hops_of hops) input i a

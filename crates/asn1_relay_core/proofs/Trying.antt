@@ -1,5 +1,7 @@
 -- A message with which octets begin is found within the limit.
-use Rattle.std.proofs.Common.{◌≡◌, ◌≢◌, ◌⊎◌, inl, inr, ℕ, ◌+◌, ◌-◌, ◌≤◌, ◌<◌, ltb, min, Bool, true, false, List, [], ◌∷◌, ◌++◌, length, take, drop, Option, Some, None, refl, ap, sym, ◌∙◌, subst, append_assoc, arith}
+use Rattle.std.proofs.Common.{◌≡◌, ◌≢◌, ◌⊎◌, inl, inr, ℕ, ◌+◌, ◌-◌, ◌≤◌, ◌<◌, ltb, min, Bool, true, false, List, []}
+use Rattle.std.proofs.Common.{◌∷◌, ◌++◌, length, take, drop, Option, Some, None, refl, ap, sym, ◌∙◌, subst}
+use Rattle.std.proofs.Common.{append_assoc, arith}
 use Rattle.std.proofs.Math.Nat.{min-le_left, min-le_right, le-min}
 use Rattle.std.proofs.lemmas.Bool.{ltb-true, ltb-false}
 use Rattle.std.proofs.lemmas.List.{length-append, length-take-le, take-append-drop, take_all}
@@ -17,9 +19,9 @@ use Rattle.asn1_relay_core.specs.Coding.{IsWritten}
 use Rattle.asn1_relay_core.proofs.Coded.{of_raw}
 use Rattle.asn1_relay_core.specs.declared.fault.RelayFaultKind.{RelayFaultKind}
 use Rattle.asn1_relay_core.specs.declared.fault.RelayFaultKind.TheVariants as kind
-use Rattle.asn1_relay_core.specs.declared.front.Front.TheVariants as front
+use Rattle.asn1_relay_core.specs.declared.front.Attempt.TheVariants as front
 use Rattle.asn1_relay_core.specs.Relaying.{kind_of_stop}
-use Rattle.asn1_relay_core.specs.Fronts.{AddsText, AddsNothing, Awaits, unread_front, Tries}
+use Rattle.asn1_relay_core.specs.Attempts.{AddsText, AddsNothing, Awaits, unread_front, Tries}
 
 -- no length, no elements
 none_long : (l : List ℕ) → length l ≡ 0 → l ≡ []
@@ -50,7 +52,8 @@ module _ (source target : Rules) (schema : ℕ → Schema) (limit : ℕ) (u : Li
         let short = i.is_short in
         let k : length m.octets ≤ length u = omega arith in
         let l : length m.octets ≤ length window = subst (λ n. length m.octets ≤ n) (sym wide) (le-min short k) in
-        none m.value (drop (length m.octets) window) (record { message = m.octets; in_front = begins_with m.octets x window behind (e ∙ sym all_of_it) l; encoding = i.is_encoding; levels = i.is_shallow })
+        none m.value (drop (length m.octets) window)
+        (record { message = m.octets; in_front = begins_with m.octets x window behind (e ∙ sym all_of_it) l; encoding = i.is_encoding; levels = i.is_shallow })
 
     pub has_no_empty : ¬ (HasEmptyMessage source (schema 128))
     has_no_empty = λ h. none h.0 window (record { message = []; in_front = refl; encoding = h.1; levels = h.2 })
@@ -67,7 +70,8 @@ module _ (source target : Rules) (schema : ℕ → Schema) (limit : ℕ) (u : Li
         (λ x rest f i. m.none q x.value rest (record { message = x.octets; in_front = f; encoding = i.is_encoding; levels = i.is_shallow })),
       )
 
-  pub tried_none : (e : DecodeError) (n number : ℕ) (past : Bool) (before after : List ℕ) → past ≡ ltb limit (length u) → number ≤ length u + n → after ≡ before → NoMessage source schema window e → NeedsMore source schema window n e → Tries source target (schema 128) limit u before after (unread_front e number past)
+  pub tried_none : (e : DecodeError) (n number : ℕ) (past : Bool) (before after : List ℕ) → past ≡ ltb limit (length u) → number ≤ length u + n →
+      after ≡ before → NoMessage source schema window e → NeedsMore source schema window n e → Tries source target (schema 128) limit u before after (unread_front e number past)
   tried_none Decoding.OutOfMemory n number past before after p k g h w = (g, inl refl)
   tried_none e n number true before after p k g h w =
       let n = h.none (λ q. cc) in
@@ -102,11 +106,23 @@ module _ (source target : Rules) (schema : ℕ → Schema) (limit : ℕ) (u : Li
     begins : (w : Option (List ℕ)) → 1 ≤ length told.octets → IsWritten target schema v w → BeginsWith source target (schema 128) limit w u
     begins w l h = (told, rest ++ behind, cut, is_message l, of_raw source target schema v window rest t w is h)
 
-    pub tried_relayed : (n : ℕ) (before after : List ℕ) → n ≡ length window - length rest → 1 ≤ n → AddsText target schema v before after → Tries source target (schema 128) limit u before after (front.Relayed n)
+    pub tried_relayed : (n : ℕ) (before after : List ℕ) → n ≡ length window - length rest → 1 ≤ n → AddsText target schema v before after →
+        Tries source target (schema 128) limit u before after (front.Relayed n)
     tried_relayed n before after e l a =
         let c = counted in
         let k : 1 ≤ length told.octets = omega arith in
-        record { message = told; is_message = is_message k; rest = rest ++ behind; in_front = cut; written = a.text; translated = of_raw source target schema v window rest t (Some a.text) is a.written; is_some = a.is_some; counted = omega arith; grows = a.grows }
+        record {
+          message = told;
+          is_message = is_message k;
+          rest = rest ++ behind;
+          in_front = cut;
+          written = a.text;
+          translated =
+              of_raw source target schema v window rest t (Some a.text) is a.written;
+          is_some = a.is_some;
+          counted = omega arith;
+          grows = a.grows;
+        }
 
     pub tried_empty : (before after : List ℕ) → length window - length rest ≡ 0 → u ≢ [] → after ≡ before → Tries source target (schema 128) limit u before after (front.Stops kind.EmptyMessage)
     tried_empty before after e n g =
@@ -114,7 +130,8 @@ module _ (source target : Rules) (schema : ℕ → Schema) (limit : ℕ) (u : Li
         let z : told.octets ≡ [] = none_long told.octets (sym c ∙ e) in
         (g, inr (empty_message, refl, inr (n, (t.raw, subst (λ l. IsEncoding source (schema 128) t.raw l) z t.message.encoding, t.message.levels))))
 
-    pub tried_nothing : (k : RelayFaultKind) (before after : List ℕ) → 1 ≤ length window - length rest → AddsNothing target schema v before after k → Tries source target (schema 128) limit u before after (front.Stops k)
+    pub tried_nothing : (k : RelayFaultKind) (before after : List ℕ) → 1 ≤ length window - length rest → AddsNothing target schema v before after k →
+        Tries source target (schema 128) limit u before after (front.Stops k)
     tried_nothing k before after l a = (a.same, by_cause a.why)
       where
         some_told : 1 ≤ length told.octets

@@ -1,11 +1,11 @@
--- What readers and writers count and reveal.
+-- What a call of a reader or of a writer does: octets that it gives or accepts, and failed calls, which are counted.
 use Rattle.std.specs.Prelude.{◌≡◌, ℕ, ◌+◌, ◌<◌, ◌≤◌, List, ◌++◌, length, take, Option, Result, Ok, Err}
 use Rattle.std.specs.Io.KnownBytes.{Appends, Consumes, IsAtEnd}
 
 -- A failed call is counted.
-abbrev pub counted : {A E : Type 0} → Result A E → ℕ → ℕ
-counted (Ok a) n = n
-counted (Err e) n = n + 1
+abbrev pub failures_after : {A E : Type 0} → Result A E → ℕ → ℕ
+failures_after (Ok a) n = n
+failures_after (Err e) n = n + 1
 
 -- A prefix of the octets is accepted after the earlier ones, if these are known.
 abbrev pub BeginsToAppend : Option (List ℕ) → Option (List ℕ) → List ℕ → Type 0

@@ -1,7 +1,7 @@
 pub mod Coding
 pub mod Recoding
 pub mod Relaying
-pub mod Fronts
+pub mod Attempts
 pub mod Ends
 pub mod Memory
 pub mod Running

@@ -8,9 +8,9 @@ use Rattle.asn1_model.specs.Rules.{Rules, uper_strict, aper_strict, coer, canoni
 use Rattle.asn1_laws_across.specs.OwnWidth.{HasOwnWidths}
 use Rattle.asn1_schema_decode.specs.Messages.{Tells}
 
--- If each bitmap of additions in a message has the width of its type, the elements of each SET OF ascend, and the reader
--- uses no other freedom (of strict PER it has no other), the message is the canonical encoding of the value that is
--- read.
+-- If each bitmap of additions in a message has the width of its type, the elements of each SET OF ascend, and the
+-- reader uses no other freedom (of strict PER it has no other), the message is the canonical encoding of the value that
+-- is read.
 abbrev pub IsReadCanonically : Rules → Type 0
 IsReadCanonically r =
     (schema : ℕ → Schema) (v : Value) (input rest : List ℕ) (t : Tells r schema v input rest)

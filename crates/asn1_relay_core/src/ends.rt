@@ -2,7 +2,7 @@
 ghost use Rattle.std.specs.Prelude.{◌≡◌, ◌+◌, ◌<◌, ◌≤◌, ℕ, List, Option, IfOk, IsErr, OnErr, OnOk, MatchResult, length};
 ghost use Rattle.std.specs.Borrow.{GName};
 ghost use Rattle.std.specs.Io.KnownBytes.{Appends, Keeps, ReadConsumes};
-ghost use Rattle.asn1_relay_core.specs.Ends.{BeginsToAppend, counted};
+ghost use Rattle.asn1_relay_core.specs.Ends.{BeginsToAppend, failures_after};
 
 use thiserror::Error;
 
@@ -45,7 +45,7 @@ pub trait Source {
         ensures spends { IfOk result (λ n. budget self.new + n ≡ budget self.old) }
         ensures keeps { OnErr result (budget self.new ≡ budget self.old) }
         ensures spent { budget self.old ≡ 0 → IsErr result }
-        ensures counts { failures self.new ≡ counted result (failures self.old) }
+        ensures counts { failures self.new ≡ failures_after result (failures self.old) }
         ensures stays { lender self.new ≡ lender self.old };
 }
 
@@ -69,7 +69,7 @@ pub trait Sink {
         requires { failures self.old < 18446744073709551615 }
         ensures all { OnOk result (Appends (taken self.old) (taken self.new) octets.now) }
         ensures begins { OnErr result (BeginsToAppend (taken self.old) (taken self.new) octets.now) }
-        ensures counts { failures self.new ≡ counted result (failures self.old) }
+        ensures counts { failures self.new ≡ failures_after result (failures self.old) }
         ensures stays { lender self.new ≡ lender self.old };
 
     /// Flushes the octets that it has accepted.
@@ -80,6 +80,6 @@ pub trait Sink {
     fn flush(&mut self) -> Result<(), WriteFailed>
         requires { failures self.old < 18446744073709551615 }
         ensures keeps { Keeps (taken self.old) (taken self.new) }
-        ensures counts { failures self.new ≡ counted result (failures self.old) }
+        ensures counts { failures self.new ≡ failures_after result (failures self.old) }
         ensures stays { lender self.new ≡ lender self.old };
 }

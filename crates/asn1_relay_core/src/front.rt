@@ -1,7 +1,7 @@
 //! The message with which the unread octets begin.
 ghost use Rattle.std.specs.Prelude.{◌≡◌, ◌≢◌, [], IfErr, OnOk};
 ghost use Rattle.asn1_relay_core.specs.Coding.{rules_of};
-ghost use Rattle.asn1_relay_core.specs.Fronts.{AddsNothing, AddsText, Tries, unread_front};
+ghost use Rattle.asn1_relay_core.specs.Attempts.{AddsNothing, AddsText, Tries, unread_front};
 
 use crate::fault::RelayFaultKind;
 use crate::{Codec, DecodeError, EncodeError};
@@ -11,7 +11,7 @@ use std::alloc::Global;
 
 /// Result of an attempt to translate the message with which the unread octets begin.
 #[derive(Clone, Copy, Debug, PartialEq, Eq)]
-pub enum Front {
+pub enum Attempt {
     /// It had this many octets, and its translation was written.
     Relayed(usize),
     /// They do not begin with a whole message while there are fewer than this many unread octets in total.
@@ -38,7 +38,7 @@ pub fn relay_front<T: Encode + Decode>(
     way: Way,
     unread: &[u8],
     out: &mut Vec<u8>,
-) -> Front
+) -> Attempt
     requires { unread.now ≢ [] }
     ensures { Tries (rules_of way.from) (rules_of way.to) (T.schema 128) way.limit unread.now out.old.items
         out.new.items result }
@@ -53,23 +53,23 @@ pub fn relay_front<T: Encode + Decode>(
     };
     let count = window.len() - rest.len();
     if count == 0 {
-        return Front::Stops(RelayFaultKind::EmptyMessage);
+        return Attempt::Stops(RelayFaultKind::EmptyMessage);
     }
     match write(alloc, way.to, &value, out) {
-        Ok(()) => Front::Relayed(count),
-        Err(kind) => Front::Stops(kind),
+        Ok(()) => Attempt::Relayed(count),
+        Err(kind) => Attempt::Stops(kind),
     }
 }
 
 /// The result for unread octets that do not begin with a message, if they need `number` octets in total before they
 /// may, and may already exceed the limit for one message.
-fn without_message(error: DecodeError, number: usize, is_past_limit: bool) -> Front
+fn without_message(error: DecodeError, number: usize, is_past_limit: bool) -> Attempt
     ensures { result ≡ unread_front error number is_past_limit }
 {
     match error {
-        DecodeError::OutOfMemory => Front::Stops(RelayFaultKind::Memory),
-        _ if is_past_limit => Front::Stops(RelayFaultKind::NoneWithinLimit),
-        _ => Front::Waits(number),
+        DecodeError::OutOfMemory => Attempt::Stops(RelayFaultKind::Memory),
+        _ if is_past_limit => Attempt::Stops(RelayFaultKind::NoneWithinLimit),
+        _ => Attempt::Waits(number),
     }
 }
 

@@ -2,7 +2,7 @@
 ghost use Rattle.std.specs.Prelude.{◌≡◌, ◌↔◌, ◌+◌, ◌++◌, ◌<◌, ◌≤◌, Some, None, IfOk, IsErr, OnErr, OnOk, []};
 ghost use Rattle.std.specs.Prelude.{if◌then◌else◌, length, min, true};
 ghost use Rattle.std.specs.Io.KnownBytes.{Appends, Keeps, ReadConsumes};
-ghost use Rattle.asn1_relay_core.specs.Ends.{BeginsToAppend, counted};
+ghost use Rattle.asn1_relay_core.specs.Ends.{BeginsToAppend, failures_after};
 ghost use Rattle.asn1_relay_core.specs.Memory.{no_lender, one_call_on};
 
 use crate::ends::{ReadFailed, Sink, Source, WriteFailed};
@@ -68,7 +68,7 @@ impl Source for MemorySource {
         ensures spends { IfOk result (λ n. length self.new.coming + 1 + n ≡ length self.old.coming + 1) }
         ensures keeps { OnErr result (length self.new.coming + 1 ≡ length self.old.coming + 1) }
         ensures spent { length self.old.coming + 1 ≡ 0 → IsErr result }
-        ensures counts { self.new.failed ≡ counted result self.old.failed }
+        ensures counts { self.new.failed ≡ failures_after result self.old.failed }
         ensures stays { no_lender ≡ no_lender }
     {
         if self.calls.fails() {
@@ -133,7 +133,7 @@ impl Sink for MemorySink {
         ensures takes { OnOk result (self.new.taken ≡ self.old.taken ++ octets.now) }
         ensures all { OnOk result (Appends (Some self.old.taken) (Some self.new.taken) octets.now) }
         ensures begins { OnErr result (BeginsToAppend (Some self.old.taken) (Some self.new.taken) octets.now) }
-        ensures counts { self.new.failed ≡ counted result self.old.failed }
+        ensures counts { self.new.failed ≡ failures_after result self.old.failed }
         ensures stays { no_lender ≡ no_lender }
     {
         if self.calls.fails() {
@@ -152,7 +152,7 @@ impl Sink for MemorySink {
         ensures fails { IsErr result ↔ (self.old.fails_in ≡ Some 0) }
         ensures goes_on { self.new.fails_in ≡ one_call_on self.old.fails_in }
         ensures keeps { Keeps (Some self.old.taken) (Some self.new.taken) }
-        ensures counts { self.new.failed ≡ counted result self.old.failed }
+        ensures counts { self.new.failed ≡ failures_after result self.old.failed }
         ensures stays { no_lender ≡ no_lender }
     {
         if self.calls.fails() {

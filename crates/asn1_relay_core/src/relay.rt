@@ -4,7 +4,7 @@ ghost use Rattle.asn1_relay_core.specs.Relaying.{IsFed, FaultOf, end_fault};
 
 use crate::Codec;
 use crate::fault::{RelayFault, RelayFaultKind};
-use crate::front::{Front, Way, relay_front};
+use crate::front::{Attempt, Way, relay_front};
 use asn1_schema_decode::Decode;
 use asn1_schema_encode::Encode;
 use asn1_schema_types::Described;
@@ -41,7 +41,7 @@ impl<T: Described> Model for Relay<T> {
 
     ghost use Rattle.std.specs.Prelude.{◌≤◌};
     ghost use Rattle.asn1_relay_core.specs.Coding.{rules_of};
-    ghost use Rattle.asn1_relay_core.specs.Fronts.{Awaits};
+    ghost use Rattle.asn1_relay_core.specs.Attempts.{Awaits};
 
     ghost invariant = { λ r. (1 ≤ r.way.limit)
         × Awaits (rules_of r.way.from) (T.schema 128) r.way.limit r.unread.items r.awaited };
@@ -94,7 +94,7 @@ impl<T: Encode + Decode> Relay<T> {
     pub fn feed(&mut self, piece: &[u8], out: &mut Vec<u8>) -> Result<(), RelayFault>
         ensures ok { OnOk result (IsFed (T.schema 128) self.old self.new piece.now out.old.items out.new.items) }
         ensures only { IfErr result (FaultOf (T.schema 128) self.old self.new piece.now out.old.items out.new.items) }
-        ensures nothing { self.old.failed ≡ false → self.old.unread ≡ [] → piece.now ≡ [] → IsOk result }
+        ensures empty { self.old.failed ≡ false → self.old.unread ≡ [] → piece.now ≡ [] → IsOk result }
     {
         if self.failed {
             return Err(self.fault(RelayFaultKind::AlreadyFailed));
@@ -113,16 +113,16 @@ impl<T: Encode + Decode> Relay<T> {
         }
         while !self.unread.is_empty() {
             match relay_front::<T>(self.alloc, self.way, self.unread.as_slice(), out) {
-                Front::Relayed(count) => {
+                Attempt::Relayed(count) => {
                     self.awaited = 0;
                     self.unread.advance(count);
                     self.number = self.number.saturating_add(1);
                 }
-                Front::Waits(number) => {
+                Attempt::Waits(number) => {
                     self.awaited = number;
                     return Ok(());
                 }
-                Front::Stops(kind) => return Err(self.stop(kind)),
+                Attempt::Stops(kind) => return Err(self.stop(kind)),
             }
         }
         Ok(())

@@ -5,7 +5,7 @@ ghost use Rattle.asn1_schema_constraints.specs.Terms.{no_constraint};
 ghost use Rattle.asn1_schema_decode.specs.Reads.{Reads, Unread};
 ghost use Rattle.asn1_schema_encode.specs.Writes.{CannotWrite, Writes};
 ghost use Rattle.asn1_schema_laws.specs.Tables.{IsType, IsValue, Table, sequence_type};
-ghost use Rattle.asn1_schema_errors.specs.Calls.{DecoderCall, EncoderCall};
+ghost use Rattle.asn1_schema_errors.specs.Calls.{DecoderCall, EncoderCall, SameLevel};
 
 use asn1_schema_constraints::Constraints;
 use asn1_schema_decode::{Decode, Decoder};
@@ -39,10 +39,9 @@ pub trait Listed: Drop {
     fn read<D: Decoder>(alloc: Global, decoder: &mut D, tag: Tag) -> Result<Self, DecodeError>
         ensures ok { IfOk result
             (λ x. Reads D.step (sequence_type form) (D.levels decoder.old) (value x) decoder.old decoder.new) }
-        ensures level { OnOk result (D.levels decoder.new ≡ D.levels decoder.old) }
         ensures only { IfErr result
             (Unread D.step D.too_few (sequence_type form) (D.levels decoder.old) decoder.old decoder.new) }
-        ensures call { DecoderCall D.has_failed decoder.old decoder.new result };
+        ensures call { DecoderCall D.has_failed (SameLevel D.levels) decoder.old decoder.new result };
 }
 
 /// A sequence of these components (X.680 25).

@@ -50,7 +50,8 @@ of_addition i d e x = record {
 abbrev pub choices : Listed → Bool → Listed → Choices
 choices r e a = record { root = r.variants; extensible = e; additions = a.variants }
 
-abbrev pub choice_of : {A : Type 0} (r : Listed) (e : Bool) (a : Listed) → are_tags (all_tags (choices r e a)) ≡ true → are_choices (choices r e a) ≡ true → (A → Placed (choices r e a)) → ChoiceShape A
+abbrev pub choice_of : {A : Type 0} (r : Listed) (e : Bool) (a : Listed) → are_tags (all_tags (choices r e a)) ≡ true →
+    are_choices (choices r e a) ≡ true → (A → Placed (choices r e a)) → ChoiceShape A
 choice_of r e a k d f = record {
   table = choices r e a;
   place = λ x. (f x).place;

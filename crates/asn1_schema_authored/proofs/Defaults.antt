@@ -29,7 +29,8 @@ all_left_out n (field t required s gs) e = let z : false ≡ true = e in cc
 all_left_out n (field t optional s gs) e = ap (option_map absent) (all_left_out n gs e)
 all_left_out n (field t (by_default d) s gs) e = ap (option_map absent) (all_left_out n gs e)
 
-additions_grow : (n : ℕ) (fs gs : Fields) (qs : Parts) → are_of (components_at n fs) qs ≡ true → are_of (components_at n (joined fs gs)) (with_absents gs qs) ≡ true → carried_parts true (components_at n fs) (components_at n (joined fs gs)) qs ≡ Some (with_absents gs qs)
+additions_grow : (n : ℕ) (fs gs : Fields) (qs : Parts) → are_of (components_at n fs) qs ≡ true →
+    are_of (components_at n (joined fs gs)) (with_absents gs qs) ≡ true → carried_parts true (components_at n fs) (components_at n (joined fs gs)) qs ≡ Some (with_absents gs qs)
 unfolding components_at are_of carried_parts
 additions_grow n no_field gs end e f = all_left_out n gs f
 additions_grow n no_field gs (absent qs) e f = cc
@@ -42,7 +43,9 @@ additions_grow n (field t o s fs) gs (present v qs) e f =
     rw (a, b) refl
 
 -- A default of a sequence with further additions: that of the older version, with these absent.
-pub default_gains : {k : ℕ} (t : Table) (gs : Fields) {ps qs : Parts} → IsDefault (sequence_type t) (fields ps qs) → IsDefault (sequence_type (with_additions gs t)) (fields ps (with_absents gs qs)) → KeepsPresenceFrom (suc k) (sequence_type t) (sequence_type (with_additions gs t)) (by_default (fields ps qs)) (by_default (fields ps (with_absents gs qs)))
+pub default_gains : {k : ℕ} (t : Table) (gs : Fields) {ps qs : Parts} → IsDefault (sequence_type t) (fields ps qs) →
+    IsDefault (sequence_type (with_additions gs t)) (fields ps (with_absents gs qs)) →
+    KeepsPresenceFrom (suc k) (sequence_type t) (sequence_type (with_additions gs t)) (by_default (fields ps qs)) (by_default (fields ps (with_absents gs qs)))
 unfolding sequence_type scope is_of carried
 default_gains {k} t gs {ps} {qs} a b = record { unfolded = at }
   where

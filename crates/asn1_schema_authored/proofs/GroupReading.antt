@@ -19,7 +19,8 @@ use Rattle.asn1_schema_authored.proofs.Extending.{group_tail, group_fits}
 use Rattle.asn1_schema_authored.proofs.Reading.{reads_addition, reads_empty, unread_empty}
 
 -- the records of a group, and what they are made of
-of_group : {S : Type 0} (step : S → Record → S → Type 0) (cs : Components) (v : Value) (a c : S) → Fits (group cs) v → Chain step (presents (group cs) v) a c → (ps : Parts) × (b : S) × PartsFit cs ps × step a (group_begins (optional_count cs)) b × Chain step (root_records cs ps (ends ∷ [])) b c
+of_group : {S : Type 0} (step : S → Record → S → Type 0) (cs : Components) (v : Value) (a c : S) → Fits (group cs) v →
+    Chain step (presents (group cs) v) a c → (ps : Parts) × (b : S) × PartsFit cs ps × step a (group_begins (optional_count cs)) b × Chain step (root_records cs ps (ends ∷ [])) b c
 unfolding presents Fits
 of_group step cs (fields ps end) a c f p = (ps, p.0, f.0, p.1, p.2)
 of_group step cs (fields ps (present w qs)) a c f p = let e : present w qs ≡ end = f.1 in cc
@@ -48,7 +49,8 @@ module _ {S : Type 0} {step : S → Record → S → Type 0} {t : Table} (g : Is
         h.none w start near (let z : 0 < suc n = omega arith in z) _ d.1 (ap asks_group (presence_bits_at n t.root ∙ sym e)) d.3;
   }
 
-  pub unread_group : OneRecord step → {few : S → S → S → Type 0} → CarriesRecords step few → {m n : ℕ} {a b failed : S} {x : DecodeError} → m ≡ n + 1 → step a (group_begins k) b → UnreadTail step few t n b failed x → Unread step few (group_type t) m a failed x
+  pub unread_group : OneRecord step → {few : S → S → S → Type 0} → CarriesRecords step few → {m n : ℕ} {a b failed : S} {x : DecodeError} →
+      m ≡ n + 1 → step a (group_begins k) b → UnreadTail step few t n b failed x → Unread step few (group_type t) m a failed x
   unfolding group_type scope
   unread_group one {few} carries {m} {n} {a} {b} {failed} {x} l h u =
       let r : Unread step few (group_type t) (suc n) a failed x = record {
@@ -68,11 +70,14 @@ left_out_as t zero v f e = absurd f
 left_out_as t (suc n) v {ps} f e = ap (λ (w : Value). is_empty_group (group (components_at n t.root)) w) e
 
 module _ {S : Type 0} {step : S → Record → S → Type 0} (t : Table) {n : ℕ} {ps : Parts} where
-  pub reads_kept : {a d : S} → are_absent ps ≡ false → ReadsEnclosed step (group_type t) n (fields ps end) a d → ReadsAddition step optional (group_type t) n (part_unless (are_absent ps) (fields ps end)) a d
+  pub reads_kept : {a d : S} → are_absent ps ≡ false → ReadsEnclosed step (group_type t) n (fields ps end) a d →
+      ReadsAddition step optional (group_type t) n (part_unless (are_absent ps) (fields ps end)) a d
   reads_kept k h = rw k (reads_addition optional h (left_out_as t n h.reads.raw h.reads.fits h.reads.means ∙ k) refl)
 
   pub reads_left : {a c d : S} → are_absent ps ≡ true → ReadsEnclosed step (group_type t) n (fields ps end) a c → step c is_empty d → ReadsAddition step optional (group_type t) n left_out a d
   reads_left k h z = reads_empty optional h refl (left_out_as t n h.reads.raw h.reads.fits h.reads.means ∙ k) z
 
-  pub unread_left : OneRecord step → {few : S → S → S → Type 0} → CarriesRecords step few → CarriesValues step few → {a b c d failed : S} {x : DecodeError} → are_absent ps ≡ true → step a (addition true) b → Reads step (group_type t) n (fields ps end) b c → step c addition_ends d → NoRecord step few asks_empty d failed x → UnreadAddition step few optional (group_type t) n a failed x
+  pub unread_left : OneRecord step → {few : S → S → S → Type 0} → CarriesRecords step few → CarriesValues step few →
+      {a b c d failed : S} {x : DecodeError} → are_absent ps ≡ true → step a (addition true) b → Reads step (group_type t) n (fields ps end) b c →
+      step c addition_ends d → NoRecord step few asks_empty d failed x → UnreadAddition step few optional (group_type t) n a failed x
   unread_left one carries values k m r e h = unread_empty one carries values optional m r e refl (left_out_as t n r.raw r.fits r.means ∙ k) h

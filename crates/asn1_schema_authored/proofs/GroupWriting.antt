@@ -23,29 +23,36 @@ module _ {S : Type 0} {step : S → Record → S → Type 0} {t : Table} (g : Is
   writes_group {a} {b} {c} h w = record {
     chain = λ n. elim n as (λ n. Fits (scope n (λ m. group (components_at m t.root))) (fields ps end) → Chain step (presents (scope n (λ m. group (components_at m t.root))) (fields ps end)) a c) [
       | zero ↦ λ f. absurd f
-      | suc j ↦ λ f. (b, subst (λ (i : ℕ). step a (group_begins i) b) (e ∙ sym (presence_bits_at j t.root)) h, subst (λ rs. Chain step rs b c) (group_tail j g ps q) (w.chain j (group_fits j g ps q f.0)))
+      | suc j ↦ λ f. (
+        b,
+        subst (λ (i : ℕ). step a (group_begins i) b) (e ∙ sym (presence_bits_at j t.root)) h,
+        subst (λ rs. Chain step rs b c)
+            (group_tail j g ps q) (w.chain j (group_fits j g ps q f.0)),
+      )
     ];
   }
 
   pub cannot_group_here : {a : S} {x : EncodeError} → Refused step (group_begins k) a x → CannotWrite step (group_type t) (fields ps end) a x
   unfolding group_type scope presents Fits
   cannot_group_here {a} h = record {
-    none = λ w n c. elim n as (λ n. Fits (scope n (λ m. group (components_at m t.root))) (fields ps end) → Chain step (presents (scope n (λ m. group (components_at m t.root))) (fields ps end)) a c → ⊥) [
-      | zero ↦ λ f p. f
-      | suc j ↦ λ f p. h.none w p.0 (subst (λ (i : ℕ). step a (group_begins i) p.0) (presence_bits_at j t.root ∙ sym e) p.1)
-    ];
+    none = λ w n c. elim n as (λ n. Fits (scope n (λ m. group (components_at m t.root))) (fields ps end) →
+        Chain step (presents (scope n (λ m. group (components_at m t.root))) (fields ps end)) a c → ⊥) [
+          | zero ↦ λ f p. f
+          | suc j ↦ λ f p. h.none w p.0 (subst (λ (i : ℕ). step a (group_begins i) p.0) (presence_bits_at j t.root ∙ sym e) p.1)
+        ];
   }
 
   pub cannot_group : OneAfter step → {a b : S} {x : EncodeError} → step a (group_begins k) b → CannotWriteTail step t ps qs b x → CannotWrite step (group_type t) (fields ps end) a x
   unfolding group_type scope presents Fits
   cannot_group one {a} {b} h z = record {
-    none = λ w n c. elim n as (λ n. Fits (scope n (λ m. group (components_at m t.root))) (fields ps end) → Chain step (presents (scope n (λ m. group (components_at m t.root))) (fields ps end)) a c → ⊥) [
-      | zero ↦ λ f p. f
-      | suc j ↦ λ f p.
-          let i = one a (group_begins k) p.0 b (subst (λ (i : ℕ). step a (group_begins i) p.0) (presence_bits_at j t.root ∙ sym e) p.1) h in
-          let r = subst (λ (s : S). Chain step (root_records (components_at j t.root) ps (ends ∷ [])) s c) i p.2 in
-          z.none w j c (group_fits j g ps q f.0) (subst (λ rs. Chain step rs b c) (sym (group_tail j g ps q)) r)
-    ];
+    none = λ w n c. elim n as (λ n. Fits (scope n (λ m. group (components_at m t.root))) (fields ps end) →
+        Chain step (presents (scope n (λ m. group (components_at m t.root))) (fields ps end)) a c → ⊥) [
+          | zero ↦ λ f p. f
+          | suc j ↦ λ f p.
+              let i = one a (group_begins k) p.0 b (subst (λ (i : ℕ). step a (group_begins i) p.0) (presence_bits_at j t.root ∙ sym e) p.1) h in
+              let r = subst (λ (s : S). Chain step (root_records (components_at j t.root) ps (ends ∷ [])) s c) i p.2 in
+              z.none w j c (group_fits j g ps q f.0) (subst (λ rs. Chain step rs b c) (sym (group_tail j g ps q)) r)
+        ];
   }
 
 -- no note follows a group that the normal form keeps

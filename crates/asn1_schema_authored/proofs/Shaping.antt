@@ -23,7 +23,8 @@ sequence_of c d e f = record {
 }
 
 -- SET: the same, and that the components ascend by their tags.
-abbrev pub set_of : {A F : Type 0} (c : Ghosts F) → AreDefaults c.table → are_distinct tag_same (field_tags c.table.root ++ field_tags c.table.additions) ≡ true → are_ascending tag_less (field_places c.table.root) ≡ true → (A → F) → Shape A
+abbrev pub set_of : {A F : Type 0} (c : Ghosts F) → AreDefaults c.table →
+    are_distinct tag_same (field_tags c.table.root ++ field_tags c.table.additions) ≡ true → are_ascending tag_less (field_places c.table.root) ≡ true → (A → F) → Shape A
 set_of c d e g f = record {
   form = set_form;
   table = c.table;

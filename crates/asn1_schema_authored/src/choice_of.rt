@@ -9,7 +9,7 @@ ghost use Rattle.asn1_schema_decode.specs.Reads.{Reads, Unread};
 ghost use Rattle.asn1_schema_authored.specs.ChoiceShapes.{ChoiceShape};
 ghost use Rattle.asn1_schema_constructed.specs.Chosen.{IsAmong, IsTag, chosen_type, chosen_value};
 ghost use Rattle.asn1_schema_constructed.specs.Tables.{all_tags, choice_type, tags_of};
-ghost use Rattle.asn1_schema_errors.specs.Calls.{DecoderCall, EncoderCall};
+ghost use Rattle.asn1_schema_errors.specs.Calls.{DecoderCall, EncoderCall, SameLevel};
 
 use asn1_schema_constraints::Constraints;
 use asn1_schema_constructed::{
@@ -72,10 +72,9 @@ pub trait ChoiceAlternatives: Drop {
         ensures place { IfOk result (λ x. shape.place x ≡ chosen) }
         ensures ok { IfOk result (λ x. Reads D.step (chosen_type shape.table chosen) (D.levels decoder.old)
             (shape.inner x) decoder.old decoder.new) }
-        ensures level { OnOk result (D.levels decoder.new ≡ D.levels decoder.old) }
         ensures only { IfErr result
             (Unread D.step D.too_few (chosen_type shape.table chosen) (D.levels decoder.old) decoder.old decoder.new) }
-        ensures call { DecoderCall D.has_failed decoder.old decoder.new result };
+        ensures call { DecoderCall D.has_failed (SameLevel D.levels) decoder.old decoder.new result };
 }
 
 /// CHOICE (X.680 29) of the variants of an enum.

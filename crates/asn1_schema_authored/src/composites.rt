@@ -7,7 +7,7 @@ ghost use Rattle.asn1_schema_tags.specs.Tags.{tag_of};
 ghost use Rattle.asn1_schema_authored.specs.Shapes.{IsHeading, Shape, asks, begins, form_of, form_tag, form_tags};
 ghost use Rattle.asn1_schema_authored.specs.Shapes.{shape_type, shape_value};
 ghost use Rattle.asn1_schema_constructed.specs.Constructed.{AreAdditions, AreFields};
-ghost use Rattle.asn1_schema_errors.specs.Calls.{DecoderCall, EncoderCall};
+ghost use Rattle.asn1_schema_errors.specs.Calls.{DecoderCall, EncoderCall, OneLevelLess, OneLevelMore};
 
 use asn1_schema_constraints::Constraints;
 use asn1_schema_constructed::{Constructed, Fields};
@@ -104,10 +104,9 @@ pub trait Components: Drop {
     fn read_components<D: Decoder>(alloc: Global, decoder: &mut D) -> Result<Self, DecodeError>
         ensures ok { IfOk result (λ x. ReadsTail D.step shape.table (D.levels decoder.old) (shape.root x)
             (shape.added x) decoder.old decoder.new) }
-        ensures level { OnOk result (D.levels decoder.new ≡ D.levels decoder.old + 1) }
         ensures only { IfErr result
             (UnreadTail D.step D.too_few shape.table (D.levels decoder.old) decoder.old decoder.new) }
-        ensures call { DecoderCall D.has_failed decoder.old decoder.new result };
+        ensures call { DecoderCall D.has_failed (OneLevelMore D.levels) decoder.old decoder.new result };
 }
 
 /// The SEQUENCE or SET of the fields of a struct.
@@ -230,11 +229,10 @@ impl<T: Components> Decode for Composite<T> {
 fn begin_read<D: Decoder>(decoder: &mut D, tag: Tag, heading: Heading) -> Result<(), DecodeError>
     ensures ok { OnOk result
         (D.step decoder.old (begins (form_of heading.set) heading.extensible heading.optional) decoder.new) }
-    ensures level { OnOk result (D.levels decoder.old ≡ D.levels decoder.new + 1) }
     ensures only { IfErr result
         (NoLevel D.step D.too_few (asks (form_of heading.set) heading.extensible heading.optional)
         (D.levels decoder.old) decoder.old decoder.new) }
-    ensures call { DecoderCall D.has_failed decoder.old decoder.new result }
+    ensures call { DecoderCall D.has_failed (OneLevelLess D.levels) decoder.old decoder.new result }
 {
     if heading.set {
         decoder.begin_set(tag, heading.extensible, heading.optional)

@@ -11,7 +11,7 @@ ghost use Rattle.asn1_schema_laws.specs.Additions.{group_type, group_part};
 ghost use Rattle.asn1_schema_authored.specs.Reads.{ReadsExtension, UnreadExtension, ReadsExtensionDefault};
 ghost use Rattle.asn1_schema_authored.specs.Reads.{UnreadExtensionDefault, ReadsAddition, UnreadAddition};
 ghost use Rattle.asn1_schema_authored.specs.Reads.{ReadsAdded, UnreadAdded};
-ghost use Rattle.asn1_schema_errors.specs.Calls.{DecoderCall};
+ghost use Rattle.asn1_schema_errors.specs.Calls.{DecoderCall, OneLevelMore, SameLevel};
 
 use crate::additions::{
     AddedDefaultedComponent, AddedGroupComponent, AddedOptionalComponent, AddedRequiredComponent,
@@ -32,10 +32,9 @@ pub trait DecodeAdditions: AdditionsOf + Drop {
     fn decode_additions<D: Decoder>(alloc: Global, decoder: &mut D) -> Result<Self, DecodeError>
         ensures ok { IfOk result
             (λ x. ReadsAdded D.step Self.additions (D.levels decoder.old) (Self.parts x) decoder.old decoder.new) }
-        ensures level { OnOk result (D.levels decoder.new ≡ D.levels decoder.old + 1) }
         ensures only { IfErr result
             (UnreadAdded D.step D.too_few Self.additions (D.levels decoder.old) decoder.old decoder.new) }
-        ensures call { DecoderCall D.has_failed decoder.old decoder.new result };
+        ensures call { DecoderCall D.has_failed (OneLevelMore D.levels) decoder.old decoder.new result };
 }
 
 impl DecodeAdditions for NoMore {
@@ -100,10 +99,9 @@ pub trait DecodeExtension: Decoder {
         ensures ok { IfOk result
             (λ x. ReadsAddition Self.step required T.schema (Self.levels self.old) (there (T.meaning x))
             self.old self.new) }
-        ensures level { OnOk result (Self.levels self.new ≡ Self.levels self.old) }
         ensures only { IfErr result
             (UnreadAddition Self.step Self.too_few required T.schema (Self.levels self.old) self.old self.new) }
-        ensures call { DecoderCall Self.has_failed self.old self.new result }
+        ensures call { DecoderCall Self.has_failed (SameLevel Self.levels) self.old self.new result }
     {
         let present = self.get_addition()?;
         if !present {
@@ -124,10 +122,9 @@ pub trait DecodeExtension: Decoder {
         ensures ok { IfOk result
             (λ x. ReadsAddition Self.step optional T.schema (Self.levels self.old) (part_of T.meaning x)
             self.old self.new) }
-        ensures level { OnOk result (Self.levels self.new ≡ Self.levels self.old) }
         ensures only { IfErr result
             (UnreadAddition Self.step Self.too_few optional T.schema (Self.levels self.old) self.old self.new) }
-        ensures call { DecoderCall Self.has_failed self.old self.new result }
+        ensures call { DecoderCall Self.has_failed (SameLevel Self.levels) self.old self.new result }
     {
         self.decode_extension_addition_with_tag(alloc, T::TAG)
     }
@@ -143,10 +140,9 @@ pub trait DecodeExtension: Decoder {
         ensures ok { IfOk result
             (λ x. ReadsAddition Self.step optional T.schema (Self.levels self.old) (part_of T.meaning x)
             self.old self.new) }
-        ensures level { OnOk result (Self.levels self.new ≡ Self.levels self.old) }
         ensures only { IfErr result
             (UnreadAddition Self.step Self.too_few optional T.schema (Self.levels self.old) self.old self.new) }
-        ensures call { DecoderCall Self.has_failed self.old self.new result }
+        ensures call { DecoderCall Self.has_failed (SameLevel Self.levels) self.old self.new result }
     {
         let value = self.decode_extension_addition_with_tag_and_constraints(
             alloc,
@@ -167,11 +163,10 @@ pub trait DecodeExtension: Decoder {
         ensures ok { IfOk result
             (λ x. ReadsExtension Self.step (T.under (meant constraints.now)) (Self.levels self.old)
             (part_of T.meaning x) self.old self.new) }
-        ensures level { OnOk result (Self.levels self.new ≡ Self.levels self.old) }
         ensures only { IfErr result
             (UnreadExtension Self.step Self.too_few (T.under (meant constraints.now))
             (Self.levels self.old) self.old self.new) }
-        ensures call { DecoderCall Self.has_failed self.old self.new result }
+        ensures call { DecoderCall Self.has_failed (SameLevel Self.levels) self.old self.new result }
     {
         self.decode_extension_addition_with_tag_and_constraints(alloc, T::TAG, constraints)
     }
@@ -189,11 +184,10 @@ pub trait DecodeExtension: Decoder {
         ensures ok { IfOk result
             (λ x. ReadsExtension Self.step (T.under (meant constraints.now)) (Self.levels self.old)
             (part_of T.meaning x) self.old self.new) }
-        ensures level { OnOk result (Self.levels self.new ≡ Self.levels self.old) }
         ensures only { IfErr result
             (UnreadExtension Self.step Self.too_few (T.under (meant constraints.now))
             (Self.levels self.old) self.old self.new) }
-        ensures call { DecoderCall Self.has_failed self.old self.new result }
+        ensures call { DecoderCall Self.has_failed (SameLevel Self.levels) self.old self.new result }
     {
         self.decode_extension_addition_with_constraints(alloc, constraints)
     }
@@ -210,11 +204,10 @@ pub trait DecodeExtension: Decoder {
         ensures ok { IfOk result
             (λ x. ReadsExtension Self.step (T.under (meant constraints.now)) (Self.levels self.old)
             (part_of T.meaning x) self.old self.new) }
-        ensures level { OnOk result (Self.levels self.new ≡ Self.levels self.old) }
         ensures only { IfErr result
             (UnreadExtension Self.step Self.too_few (T.under (meant constraints.now))
             (Self.levels self.old) self.old self.new) }
-        ensures call { DecoderCall Self.has_failed self.old self.new result }
+        ensures call { DecoderCall Self.has_failed (SameLevel Self.levels) self.old self.new result }
     {
         let present = self.get_addition()?;
         if !present {
@@ -237,11 +230,10 @@ pub trait DecodeExtension: Decoder {
         ensures ok { IfOk result
             (λ x. ReadsAddition Self.step (by_default V.value) T.schema (Self.levels self.old)
             (part_unless (same (T.meaning x) V.value) (T.meaning x)) self.old self.new) }
-        ensures level { OnOk result (Self.levels self.new ≡ Self.levels self.old) }
         ensures only { IfErr result
             (UnreadAddition Self.step Self.too_few (by_default V.value) T.schema
             (Self.levels self.old) self.old self.new) }
-        ensures call { DecoderCall Self.has_failed self.old self.new result }
+        ensures call { DecoderCall Self.has_failed (SameLevel Self.levels) self.old self.new result }
     {
         self.decode_extension_addition_with_default_and_tag::<V, T>(alloc, T::TAG)
     }
@@ -257,11 +249,10 @@ pub trait DecodeExtension: Decoder {
         ensures ok { IfOk result
             (λ x. ReadsAddition Self.step (by_default V.value) T.schema (Self.levels self.old)
             (part_unless (same (T.meaning x) V.value) (T.meaning x)) self.old self.new) }
-        ensures level { OnOk result (Self.levels self.new ≡ Self.levels self.old) }
         ensures only { IfErr result
             (UnreadAddition Self.step Self.too_few (by_default V.value) T.schema
             (Self.levels self.old) self.old self.new) }
-        ensures call { DecoderCall Self.has_failed self.old self.new result }
+        ensures call { DecoderCall Self.has_failed (SameLevel Self.levels) self.old self.new result }
     {
         let value = self.decode_extension_addition_with_default_and_tag_and_constraints::<V, T>(
             alloc,
@@ -282,11 +273,10 @@ pub trait DecodeExtension: Decoder {
         ensures ok { IfOk result
             (λ x. ReadsExtensionDefault Self.step (T.under (meant constraints.now)) (Self.levels self.old)
             V.value (T.meaning x) self.old self.new) }
-        ensures level { OnOk result (Self.levels self.new ≡ Self.levels self.old) }
         ensures only { IfErr result
             (UnreadExtensionDefault Self.step Self.too_few (T.under (meant constraints.now))
             (Self.levels self.old) V.value self.old self.new) }
-        ensures call { DecoderCall Self.has_failed self.old self.new result }
+        ensures call { DecoderCall Self.has_failed (SameLevel Self.levels) self.old self.new result }
     {
         self.decode_extension_addition_with_default_and_tag_and_constraints::<V, T>(
             alloc,
@@ -305,11 +295,10 @@ pub trait DecodeExtension: Decoder {
         ensures ok { IfOk result
             (λ x. ReadsExtensionDefault Self.step (T.under (meant constraints.now)) (Self.levels self.old)
             V.value (T.meaning x) self.old self.new) }
-        ensures level { OnOk result (Self.levels self.new ≡ Self.levels self.old) }
         ensures only { IfErr result
             (UnreadExtensionDefault Self.step Self.too_few (T.under (meant constraints.now))
             (Self.levels self.old) V.value self.old self.new) }
-        ensures call { DecoderCall Self.has_failed self.old self.new result }
+        ensures call { DecoderCall Self.has_failed (SameLevel Self.levels) self.old self.new result }
     {
         let present = self.get_addition()?;
         if !present {
@@ -334,10 +323,9 @@ pub trait DecodeExtension: Decoder {
         ensures ok { IfOk result
             (λ x. Reads Self.step (group_type G.components) (Self.levels self.old) (fields (G.parts x) end)
             self.old self.new) }
-        ensures level { OnOk result (Self.levels self.new ≡ Self.levels self.old) }
         ensures only { IfErr result
             (Unread Self.step Self.too_few (group_type G.components) (Self.levels self.old) self.old self.new) }
-        ensures call { DecoderCall Self.has_failed self.old self.new result }
+        ensures call { DecoderCall Self.has_failed (SameLevel Self.levels) self.old self.new result }
     {
         let optional = G::fields().number_of_optional_and_default_fields();
         self.begin_group(optional)?;
@@ -356,11 +344,10 @@ pub trait DecodeExtension: Decoder {
         ensures ok { IfOk result
             (λ x. ReadsAddition Self.step optional (group_type G.components) (Self.levels self.old)
             (group_part G.parts x) self.old self.new) }
-        ensures level { OnOk result (Self.levels self.new ≡ Self.levels self.old) }
         ensures only { IfErr result
             (UnreadAddition Self.step Self.too_few optional (group_type G.components)
             (Self.levels self.old) self.old self.new) }
-        ensures call { DecoderCall Self.has_failed self.old self.new result }
+        ensures call { DecoderCall Self.has_failed (SameLevel Self.levels) self.old self.new result }
     {
         let present = self.get_addition()?;
         if !present {
@@ -390,10 +377,9 @@ pub trait DecodeExtension: Decoder {
         ensures ok { IfOk result
             (λ x. Reads Self.step (sequence_type C.table) (Self.levels self.old) (fields (C.root x) (C.added x))
             self.old self.new) }
-        ensures level { OnOk result (Self.levels self.new ≡ Self.levels self.old) }
         ensures only { IfErr result
             (Unread Self.step Self.too_few (sequence_type C.table) (Self.levels self.old) self.old self.new) }
-        ensures call { DecoderCall Self.has_failed self.old self.new result }
+        ensures call { DecoderCall Self.has_failed (SameLevel Self.levels) self.old self.new result }
     {
         self.begin_sequence(tag, true, optional)?;
         let components = C::decode_components(alloc, self)?;

@@ -20,7 +20,8 @@ use Rattle.asn1_schema_constructed.proofs.Types.{one_fits, one_normal}
 use Rattle.asn1_schema_constructed.proofs.Records.{chosen_fits, choice_records}
 
 module _ {S : Type 0} (step : S → Record → S → Type 0) (t : Choices) where
-  reads_choice : (b : Bool) (i : ℕ) {m n : ℕ} {v : Value} {a p q d : S} → m ≡ n + 1 → step a (begins t b i) p → Reads step (type_at (side t b) i) n v p q → step q ends d → Reads step (choice_type t) m (chosen b i v) a d
+  reads_choice : (b : Bool) (i : ℕ) {m n : ℕ} {v : Value} {a p q d : S} → m ≡ n + 1 → step a (begins t b i) p →
+      Reads step (type_at (side t b) i) n v p q → step q ends d → Reads step (choice_type t) m (chosen b i v) a d
   unfolding choice_type scope
   reads_choice b i {m} {n} {v} {a} {p} {q} {d} l h r z =
       let y : Reads step (choice_type t) (suc n) (chosen b i v) a d = record {
@@ -32,16 +33,18 @@ module _ {S : Type 0} (step : S → Record → S → Type 0) (t : Choices) where
       subst (λ (k : ℕ). Reads step (choice_type t) k (chosen b i v) a d) (let e : suc n ≡ m = omega arith in e) y
 
   -- no value is read where no records are next
-  module _ (n : ℕ) (a : S) (k : (b : Bool) (i : ℕ) (v : Value) (c p : S) → Fits (type_at (side t b) i n) v → step a (begins t b i) p → Chain step (presents (type_at (side t b) i n) v ++ (ends ∷ [])) p c → ⊥) where
+  module _ (n : ℕ) (a : S) (k : (b : Bool) (i : ℕ) (v : Value) (c p : S) → Fits (type_at (side t b) i n) v → step a (begins t b i) p →
+      Chain step (presents (type_at (side t b) i n) v ++ (ends ∷ [])) p c → ⊥) where
     none_next : (v : Value) (c : S) → Fits (choice_type t (suc n)) v → Chain step (presents (choice_type t (suc n)) v) a c → ⊥
     unfolding choice_type scope Fits
-    none_next v c = elim v as (λ v. Fits (choice (alternatives_at n t.root) t.extensible (alternatives_at n t.additions)) v → Chain step (presents (choice (alternatives_at n t.root) t.extensible (alternatives_at n t.additions)) v) a c → ⊥) [
-      | chosen b i u ↦ λ f r.
-          let g = chosen_fits t b i n u f in
-          let s = subst (λ rs. Chain step rs a c) (choice_records t b i n u g) r in
-          k b i u c s.0 g s.1 s.2
-      | _ ↦ λ f r. f
-    ]
+    none_next v c = elim v as (λ v. Fits (choice (alternatives_at n t.root) t.extensible (alternatives_at n t.additions)) v →
+        Chain step (presents (choice (alternatives_at n t.root) t.extensible (alternatives_at n t.additions)) v) a c → ⊥) [
+          | chosen b i u ↦ λ f r.
+              let g = chosen_fits t b i n u f in
+              let s = subst (λ rs. Chain step rs a c) (choice_records t b i n u g) r in
+              k b i u c s.0 g s.1 s.2
+          | _ ↦ λ f r. f
+        ]
 
   unread_choice_here : (m : ℕ) {few : S → S → S → Type 0} {a failed : S} {x : DecodeError} → NoLevel step few (asks t) m a failed x → Unread step few (choice_type t) m a failed x
   unfolding choice_type scope Fits
@@ -50,7 +53,8 @@ module _ {S : Type 0} (step : S → Record → S → Type 0) (t : Choices) where
 
   module _ (one : OneRecord step) (b : Bool) (i : ℕ) (n : ℕ) {a p : S} (h : step a (begins t b i) p) where
     -- the chosen alternative is the one that begins, and its records are next
-    here : (c : Bool) (j : ℕ) (v : Value) (y z : S) → Fits (type_at (side t c) j n) v → step a (begins t c j) z → Chain step (presents (type_at (side t c) j n) v ++ (ends ∷ [])) z y → Fits (type_at (side t b) i n) v × Chain step (presents (type_at (side t b) i n) v ++ (ends ∷ [])) p y
+    here : (c : Bool) (j : ℕ) (v : Value) (y z : S) → Fits (type_at (side t c) j n) v → step a (begins t c j) z →
+        Chain step (presents (type_at (side t c) j n) v ++ (ends ∷ [])) z y → Fits (type_at (side t b) i n) v × Chain step (presents (type_at (side t b) i n) v ++ (ends ∷ [])) p y
     here c j v y z g s r =
         let e = one a (begins t c j) (begins t b i) z p refl s h in
         let eb : c ≡ b = cc e.0 in
@@ -89,7 +93,8 @@ module _ {S : Type 0} (step : S → Record → S → Type 0) (t : Choices) where
 
 -- the same for a type with these alternatives
 module _ {S : Type 0} {step : S → Record → S → Type 0} (t : Choices) {s : ℕ → Schema} (is : (n : ℕ) → s n ≡ choice_type t n) where
-  pub reads_begun : (p : Chosen) {m n : ℕ} {v u : Value} {a b q d : S} → v ≡ chosen_value p u → m ≡ n + 1 → step a (begins t p.added p.place) b → Reads step (chosen_type t p) n u b q → step q ends d → Reads step s m v a d
+  pub reads_begun : (p : Chosen) {m n : ℕ} {v u : Value} {a b q d : S} → v ≡ chosen_value p u → m ≡ n + 1 → step a (begins t p.added p.place) b →
+      Reads step (chosen_type t p) n u b q → step q ends d → Reads step s m v a d
   reads_begun p {m} {n} {v} {u} {a} {b} {q} {d} e l h r z = subst (λ w. Reads step s m w a d) (sym e) (reads_as (choice_type t) s is (reads_choice step t p.added p.place l h r z))
 
   pub unread_begun_here : (m : ℕ) {few : S → S → S → Type 0} {a failed : S} {y : DecodeError} → NoLevel step few (asks t) m a failed y → Unread step few s m a failed y
@@ -99,5 +104,6 @@ module _ {S : Type 0} {step : S → Record → S → Type 0} (t : Choices) {s : 
     pub unread_begun : {y : DecodeError} → Unread step few (chosen_type t p) n b failed y → Unread step few s m a failed y
     unread_begun u = unread_as (choice_type t) s is (unread_chosen step t one carries p.added p.place m n l h u)
 
-    pub unread_begun_end : CarriesValues step few → {u : Value} {q : S} {y : DecodeError} → Reads step (chosen_type t p) n u b q → NoRecord step few asks_end q failed y → Unread step few s m a failed y
+    pub unread_begun_end : CarriesValues step few → {u : Value} {q : S} {y : DecodeError} → Reads step (chosen_type t p) n u b q →
+        NoRecord step few asks_end q failed y → Unread step few s m a failed y
     unread_begun_end values r k = unread_as (choice_type t) s is (unread_choice_end step t one carries p.added p.place m n l h values r k)

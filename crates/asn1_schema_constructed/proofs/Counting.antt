@@ -12,7 +12,8 @@ may_be required = refl
 may_be optional = refl
 may_be (by_default v) = refl
 
-one_more : (f : Field) (fs : List Field) (o : Presence) (n : ℕ) → is_optional f ≡ not (is_required o) → length (filter is_optional fs) ≡ n → length (filter is_optional (f ∷ fs)) ≡ cond (is_required o) n (suc n)
+one_more : (f : Field) (fs : List Field) (o : Presence) (n : ℕ) → is_optional f ≡ not (is_required o) → length (filter is_optional fs) ≡ n →
+    length (filter is_optional (f ∷ fs)) ≡ cond (is_required o) n (suc n)
 one_more f fs required n e h = rw e h
 one_more f fs optional n e h = rw e (ap suc h)
 one_more f fs (by_default v) n e h = rw e (ap suc h)

@@ -28,7 +28,10 @@ module _ {S : Type 0} {step : S → Record → S → Type 0} (rs : List ℤ) (e 
 
   unread_enumerated : (n : ℕ) {few : S → S → S → Type 0} {a failed : S} {x : DecodeError} → NoRecord step few (asks_one_of rs e xs) a failed x → Unread step few (λ _. enumerated rs e xs) n a failed x
   unfolding presents Fits
-  unread_enumerated n k = record { none = λ w start near v c. elim v as (λ v. Fits (enumerated rs e xs) v → Chain step (presents (enumerated rs e xs) v) start c → ⊥) [ item z ↦ λ f p. k.none w start near _ p.0 refl p.1 | _ ↦ λ f p. f ] }
+  unread_enumerated n k = record {
+    none = λ w start near v c. elim v as (λ v. Fits (enumerated rs e xs) v →
+        Chain step (presents (enumerated rs e xs) v) start c → ⊥) [ item z ↦ λ f p. k.none w start near _ p.0 refl p.1 | _ ↦ λ f p. f ];
+  }
 
 -- the same for a type with these items, and a value that means one of them
 module _ {S : Type 0} {step : S → Record → S → Type 0} {rs : List ℤ} {e : Bool} {xs : List ℤ} {s : ℕ → Schema} (h : (n : ℕ) → s n ≡ enumerated rs e xs) where

@@ -14,12 +14,14 @@ records_at n no_variant i v f = absurd f
 records_at n (variant t s vs) zero v f = refl
 records_at n (variant t s vs) (suc i) v f = records_at n vs i v f
 
-pub chosen_fits : (t : Choices) (b : Bool) (i m : ℕ) (v : Value) → Fits (choice (alternatives_at m t.root) t.extensible (alternatives_at m t.additions)) (chosen b i v) → Fits (type_at (side t b) i m) v
+pub chosen_fits : (t : Choices) (b : Bool) (i m : ℕ) (v : Value) →
+    Fits (choice (alternatives_at m t.root) t.extensible (alternatives_at m t.additions)) (chosen b i v) → Fits (type_at (side t b) i m) v
 unfolding Fits
 chosen_fits t false i m v f = fits_at m t.root i v f
 chosen_fits t true i m v f = fits_at m t.additions i v f
 
-pub choice_records : (t : Choices) (b : Bool) (i m : ℕ) (v : Value) → Fits (type_at (side t b) i m) v → presents (choice (alternatives_at m t.root) t.extensible (alternatives_at m t.additions)) (chosen b i v) ≡ begins t b i ∷ (presents (type_at (side t b) i m) v ++ (ends ∷ []))
+pub choice_records : (t : Choices) (b : Bool) (i m : ℕ) (v : Value) → Fits (type_at (side t b) i m) v →
+    presents (choice (alternatives_at m t.root) t.extensible (alternatives_at m t.additions)) (chosen b i v) ≡ begins t b i ∷ (presents (type_at (side t b) i m) v ++ (ends ∷ []))
 unfolding presents
 choice_records t false i m v f = rw (tags_at m t.root, tags_at m t.additions) (ap (λ rs. begins t false i ∷ rs) (records_at m t.root i v f))
 choice_records t true i m v f = rw (tags_at m t.root, tags_at m t.additions) (ap (λ rs. begins t true i ∷ rs) (records_at m t.additions i v f))

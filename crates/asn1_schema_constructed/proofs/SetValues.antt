@@ -25,11 +25,13 @@ unfolding scope
 set_is_no_group t zero = refl
 set_is_no_group t (suc m) = refl
 
-pub type_set : {ts : List Tag} (t : Table) → is_one_tag ts ≡ true → AreTypes t → are_distinct tag_same (field_tags t.root ++ field_tags t.additions) ≡ true → are_ascending tag_less (field_places t.root) ≡ true → IsType ts (set_type t)
+pub type_set : {ts : List Tag} (t : Table) → is_one_tag ts ≡ true → AreTypes t → are_distinct tag_same (field_tags t.root ++ field_tags t.additions)
+    ≡ true → are_ascending tag_less (field_places t.root) ≡ true → IsType ts (set_type t)
 unfolding scope is_lawful is_tidy
 type_set {ts} t e h d a = record {
   tagged = λ n. tags_of_one ts (set_type t n) (set_is_no_group t n) e;
-  lawful = λ n. elim n as (λ n. is_lawful (scope n (λ m. set (components_at m t.root) t.extensible (components_at m t.additions))) ≡ true) [ zero ↦ refl | suc m ↦ rw (h.extensible m, tags_at m t.root, tags_at m t.additions, d, h.no_group m, h.optional_groups m, places_at m t.root, a, h.lawful m) (h.lawful_additions m) ];
+  lawful = λ n. elim n as (λ n. is_lawful (scope n (λ m. set (components_at m t.root) t.extensible (components_at m t.additions))) ≡ true)
+      [ zero ↦ refl | suc m ↦ rw (h.extensible m, tags_at m t.root, tags_at m t.additions, d, h.no_group m, h.optional_groups m, places_at m t.root, a, h.lawful m) (h.lawful_additions m) ];
   tidy = λ n. elim n as (λ n. is_tidy (scope n (λ m. set (components_at m t.root) t.extensible (components_at m t.additions))) ≡ true) [ zero ↦ refl | suc m ↦ rw (h.tidy m) (h.tidy_additions m) ];
   no_group = λ n. elim n as (λ n. is_group (scope n (λ m. set (components_at m t.root) t.extensible (components_at m t.additions))) ≡ false) [ zero ↦ refl | suc m ↦ refl ];
 }
@@ -45,5 +47,6 @@ value_set t {ps} {qs} h = record {
         let b : depth_of_parts qs ≤ max (depth_of_parts ps) (depth_of_parts qs) = le-max_right _ _ in
         (h.fits m (let z : depth_of_parts ps ≤ m = omega arith in z), h.fits_added m (let z : depth_of_parts qs ≤ m = omega arith in z))
   ];
-  normal = λ n. elim n as (λ n. normal (scope n (λ m. set (components_at m t.root) t.extensible (components_at m t.additions))) (fields ps qs) ≡ fields ps qs) [ zero ↦ refl | suc m ↦ ap (λ xs. fields xs (normal_parts (components_at m t.additions) qs)) (h.normal m) ∙ ap (λ xs. fields ps xs) (h.normal_added m) ];
+  normal = λ n. elim n as (λ n. normal (scope n (λ m. set (components_at m t.root) t.extensible (components_at m t.additions))) (fields ps qs)
+      ≡ fields ps qs) [ zero ↦ refl | suc m ↦ ap (λ xs. fields xs (normal_parts (components_at m t.additions) qs)) (h.normal m) ∙ ap (λ xs. fields ps xs) (h.normal_added m) ];
 }

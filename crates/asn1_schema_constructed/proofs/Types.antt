@@ -72,7 +72,8 @@ pub type_choice : {ts : List Tag} (t : Choices) → are_choice_tags ts (all_tags
 unfolding choice_type scope is_lawful is_tidy
 type_choice {ts} t e h k d = record {
   tagged = choice_begins ts t e;
-  lawful = λ n. elim n as (λ n. is_lawful (scope n (λ m. choice (alternatives_at m t.root) t.extensible (alternatives_at m t.additions))) ≡ true) [ zero ↦ refl | suc m ↦ rw (none_at m t.root, none_at m t.additions, tags_at m t.root, tags_at m t.additions, d, h.lawful m) (k.lawful m) ];
+  lawful = λ n. elim n as (λ n. is_lawful (scope n (λ m. choice (alternatives_at m t.root) t.extensible (alternatives_at m t.additions))) ≡ true)
+      [ zero ↦ refl | suc m ↦ rw (none_at m t.root, none_at m t.additions, tags_at m t.root, tags_at m t.additions, d, h.lawful m) (k.lawful m) ];
   tidy = λ n. elim n as (λ n. is_tidy (scope n (λ m. choice (alternatives_at m t.root) t.extensible (alternatives_at m t.additions))) ≡ true) [ zero ↦ refl | suc m ↦ rw (h.tidy m) (k.tidy m) ];
   no_group = λ n. elim n as (λ n. is_group (scope n (λ m. choice (alternatives_at m t.root) t.extensible (alternatives_at m t.additions))) ≡ false) [ zero ↦ refl | suc m ↦ refl ];
 }
@@ -82,7 +83,8 @@ unfolding Fits
 one_fits t false i m v f = at_fits m t.root i v f
 one_fits t true i m v f = at_fits m t.additions i v f
 
-pub one_normal : (t : Choices) (b : Bool) (i m : ℕ) (v : Value) → normal (choice (alternatives_at m t.root) t.extensible (alternatives_at m t.additions)) (chosen b i v) ≡ chosen b i (normal (type_at (side t b) i m) v)
+pub one_normal : (t : Choices) (b : Bool) (i m : ℕ) (v : Value) →
+    normal (choice (alternatives_at m t.root) t.extensible (alternatives_at m t.additions)) (chosen b i v) ≡ chosen b i (normal (type_at (side t b) i m) v)
 unfolding normal
 one_normal t false i m v = ap (λ w. chosen false i w) (normal_at m t.root i v)
 one_normal t true i m v = ap (λ w. chosen true i w) (normal_at m t.additions i v)
@@ -95,7 +97,8 @@ value_choice t b i {v} h = record {
     | zero ↦ λ le. absurd (let y : depth v + 1 ≤ 0 = le in omega arith)
     | suc m ↦ λ le. let y : depth v + 1 ≤ suc m = le in one_fits t b i m v (h.fits m (let w : depth v ≤ m = omega arith in w))
   ];
-  normal = λ n. elim n as (λ n. normal (scope n (λ m. choice (alternatives_at m t.root) t.extensible (alternatives_at m t.additions))) (chosen b i v) ≡ chosen b i v) [ zero ↦ refl | suc m ↦ one_normal t b i m v ∙ ap (λ w. chosen b i w) (h.normal m) ];
+  normal = λ n. elim n as (λ n. normal (scope n (λ m. choice (alternatives_at m t.root) t.extensible (alternatives_at m t.additions))) (chosen b i v)
+      ≡ chosen b i v) [ zero ↦ refl | suc m ↦ one_normal t b i m v ∙ ap (λ w. chosen b i w) (h.normal m) ];
 }
 
 -- ---- recursive choices
@@ -106,11 +109,14 @@ cut_type {ts} e = record { tagged = λ n. tags_of_cut ts e; lawful = λ n. refl;
 type_below : {ts : List Tag} {s : ℕ → Schema} → IsType ts s → (n : ℕ) → IsType ts (λ _. s n)
 type_below h n = record { tagged = λ m. h.tagged n; lawful = λ m. h.lawful n; tidy = λ m. h.tidy n; no_group = λ m. h.no_group n }
 
-module _ {ts : List Tag} (f : (ℕ → Schema) → Choices) (e : (s : ℕ → Schema) → are_choice_tags ts (all_tags (f s)) ≡ true) (h : (s : ℕ → Schema) → IsType ts s → AreVariants (f s).root) (k : (s : ℕ → Schema) → IsType ts s → AreVariants (f s).additions) (d : (s : ℕ → Schema) → are_choices (f s) ≡ true) where
+module _ {ts : List Tag} (f : (ℕ → Schema) → Choices) (e : (s : ℕ → Schema) → are_choice_tags ts (all_tags (f s)) ≡ true)
+    (h : (s : ℕ → Schema) → IsType ts s → AreVariants (f s).root) (k : (s : ℕ → Schema) → IsType ts s → AreVariants (f s).additions) (d : (s : ℕ → Schema) → are_choices (f s) ≡ true) where
   each_level : (n : ℕ) → IsType ts (λ _. recursive_choice f n)
   unfolding recursive_choice
   each_level zero = cut_type (choice_tags ts (all_tags (f (λ _. cut))) (e (λ _. cut)))
-  each_level (suc n) = let t = each_level n in type_below (type_choice (f (λ _. recursive_choice f n)) (e (λ _. recursive_choice f n)) (h (λ _. recursive_choice f n) t) (k (λ _. recursive_choice f n) t) (d (λ _. recursive_choice f n))) (suc n)
+  each_level (suc n) = let t = each_level n in
+      type_below (type_choice (f (λ _. recursive_choice f n)) (e (λ _. recursive_choice f n)) (h (λ _. recursive_choice f n) t)
+      (k (λ _. recursive_choice f n) t) (d (λ _. recursive_choice f n))) (suc n)
 
   pub recursive_choice_type : IsType ts (recursive_choice f)
   recursive_choice_type = record { tagged = λ n. (each_level n).tagged n; lawful = λ n. (each_level n).lawful n; tidy = λ n. (each_level n).tidy n; no_group = λ n. (each_level n).no_group n }

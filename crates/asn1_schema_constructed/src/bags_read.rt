@@ -6,7 +6,7 @@ ghost use Rattle.asn1_schema_constraints.specs.Bounds.{members_of};
 ghost use Rattle.asn1_schema_laws.specs.Parts.{values_of};
 ghost use Rattle.asn1_schema_constructed.specs.Bags.{bag_under};
 ghost use Rattle.asn1_schema_decode.specs.Reads.{Reads, Unread};
-ghost use Rattle.asn1_schema_errors.specs.Calls.{DecoderCall};
+ghost use Rattle.asn1_schema_errors.specs.Calls.{DecoderCall, SameLevel};
 
 use asn1_schema_constraints::{Bounded, Constraints};
 use asn1_schema_decode::{Decode, Decoder, members_within};
@@ -31,11 +31,10 @@ pub trait DecodeBag: Decoder {
             (λ x. Reads Self.step (bag_under constraints.now held T.schema) (Self.levels self.old)
             (bag (values_of T.meaning x.items)) self.old self.new) }
         ensures held { IfOk result (λ x. is_count_within (members_of held) (length x.items) ≡ true) }
-        ensures level { OnOk result (Self.levels self.new ≡ Self.levels self.old) }
         ensures only { IfErr result
             (Unread Self.step Self.too_few (bag_under constraints.now held T.schema)
             (Self.levels self.old) self.old self.new) }
-        ensures call { DecoderCall Self.has_failed self.old self.new result }
+        ensures call { DecoderCall Self.has_failed (SameLevel Self.levels) self.old self.new result }
     {
         self.begin_bag(tag, constraints, held)?;
         let items = members_within(alloc, self, held)?;

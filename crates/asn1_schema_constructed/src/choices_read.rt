@@ -6,7 +6,7 @@ ghost use Rattle.asn1_schema_tags.specs.Tags.{tag_of};
 ghost use Rattle.asn1_schema_constructed.specs.Tagged.{ReadsTagged, UnreadTagged};
 ghost use Rattle.asn1_schema_constructed.specs.Chosen.{chosen_type, begins, asks, IsAmong, of_tag};
 ghost use Rattle.asn1_schema_tags.specs.declared.chosen.Chosen.{Chosen};
-ghost use Rattle.asn1_schema_errors.specs.Calls.{DecoderCall};
+ghost use Rattle.asn1_schema_errors.specs.Calls.{DecoderCall, OneLevelLess, SameLevel};
 
 use crate::alternatives::{Alternatives, Choice, alternative_of, tag_tables_of};
 use asn1_schema_constraints::Constraints;
@@ -28,10 +28,9 @@ pub trait DecodeChoice: Choice + Drop {
         ensures ok { IfOk result
             (λ x. Reads D.step (chosen_type Self.table chosen) (D.levels decoder.old) (Self.inner x)
             decoder.old decoder.new) }
-        ensures level { OnOk result (D.levels decoder.new ≡ D.levels decoder.old) }
         ensures only { IfErr result
             (Unread D.step D.too_few (chosen_type Self.table chosen) (D.levels decoder.old) decoder.old decoder.new) }
-        ensures call { DecoderCall D.has_failed decoder.old decoder.new result };
+        ensures call { DecoderCall D.has_failed (SameLevel D.levels) decoder.old decoder.new result };
 
     /// Reads the value of the alternative with a tag.
     ///
@@ -80,11 +79,10 @@ pub trait DecodeAlternatives: Decoder {
         ensures ok { IfOk result
             (λ x. Reads Self.step (T.under (meant constraints.now)) (Self.levels self.old) (T.meaning x)
             self.old self.new) }
-        ensures level { OnOk result (Self.levels self.new ≡ Self.levels self.old) }
         ensures only { IfErr result
             (Unread Self.step Self.too_few (T.under (meant constraints.now))
             (Self.levels self.old) self.old self.new) }
-        ensures call { DecoderCall Self.has_failed self.old self.new result }
+        ensures call { DecoderCall Self.has_failed (SameLevel Self.levels) self.old self.new result }
     {
         let chosen = self.begin_alternatives::<T>(tag)?;
         let value = T::from_chosen(alloc, self, chosen)?;
@@ -98,10 +96,9 @@ pub trait DecodeAlternatives: Decoder {
         Self: Sized,
         ensures ok { IfOk result (λ x. Self.step self.old (begins C.table x.added x.place) self.new) }
         ensures within { IfOk result (IsAmong C.table) }
-        ensures level { OnOk result (Self.levels self.old ≡ Self.levels self.new + 1) }
         ensures only { IfErr result
             (NoLevel Self.step Self.too_few (asks C.table) (Self.levels self.old) self.old self.new) }
-        ensures call { DecoderCall Self.has_failed self.old self.new result }
+        ensures call { DecoderCall Self.has_failed (OneLevelLess Self.levels) self.old self.new result }
     {
         let chosen = self.begin_choice(tag, &tag_tables_of::<C>())?;
         Ok(chosen)

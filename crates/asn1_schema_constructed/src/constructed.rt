@@ -6,7 +6,7 @@ ghost use Rattle.asn1_schema_laws.specs.Tables.{Table, sequence_type};
 ghost use Rattle.asn1_schema_encode.specs.Writes.{Writes, CannotWrite, WritesTail, CannotWriteTail};
 ghost use Rattle.asn1_schema_decode.specs.Reads.{Reads, Unread, ReadsTail, UnreadTail};
 ghost use Rattle.asn1_schema_constructed.specs.Constructed.{Form, AreFields, AreAdditions, constructed_type};
-ghost use Rattle.asn1_schema_errors.specs.Calls.{DecoderCall, EncoderCall};
+ghost use Rattle.asn1_schema_errors.specs.Calls.{DecoderCall, EncoderCall, OneLevelMore, SameLevel};
 
 use crate::Fields;
 use asn1_schema_decode::Decoder;
@@ -52,10 +52,9 @@ pub trait Constructed: AsnType + Drop {
     fn read_fields<D: Decoder>(alloc: Global, decoder: &mut D) -> Result<Self, DecodeError>
         ensures ok { IfOk result
             (λ x. ReadsTail D.step table (D.levels decoder.old) (root x) (added x) decoder.old decoder.new) }
-        ensures level { OnOk result (D.levels decoder.new ≡ D.levels decoder.old + 1) }
         ensures only { IfErr result
             (UnreadTail D.step D.too_few table (D.levels decoder.old) decoder.old decoder.new) }
-        ensures call { DecoderCall D.has_failed decoder.old decoder.new result };
+        ensures call { DecoderCall D.has_failed (OneLevelMore D.levels) decoder.old decoder.new result };
 
     /// A value means its components.
     ghost means: { (x : Self) → Self.meaning x ≡ fields (root x) (added x) };
@@ -107,10 +106,9 @@ pub trait DecodeConstructed: Decoder {
         ensures ok { IfOk result
             (λ x. Reads Self.step (sequence_type T.table) (Self.levels self.old) (fields (T.root x) (T.added x))
             self.old self.new) }
-        ensures level { OnOk result (Self.levels self.new ≡ Self.levels self.old) }
         ensures only { IfErr result
             (Unread Self.step Self.too_few (sequence_type T.table) (Self.levels self.old) self.old self.new) }
-        ensures call { DecoderCall Self.has_failed self.old self.new result }
+        ensures call { DecoderCall Self.has_failed (SameLevel Self.levels) self.old self.new result }
     {
         let optional = T::fields().number_of_optional_and_default_fields();
         let extensible = T::is_extensible();

@@ -4,7 +4,7 @@ ghost use Rattle.asn1_model.specs.Schema.{enumerated};
 ghost use Rattle.asn1_model.specs.Value.{item};
 ghost use Rattle.asn1_schema_encode.specs.Writes.{Writes, CannotWrite};
 ghost use Rattle.asn1_schema_decode.specs.Reads.{Reads, Unread};
-ghost use Rattle.asn1_schema_errors.specs.Calls.{DecoderCall, EncoderCall};
+ghost use Rattle.asn1_schema_errors.specs.Calls.{DecoderCall, EncoderCall, SameLevel};
 
 use asn1_schema_decode::Decoder;
 use asn1_schema_encode::Encoder;
@@ -50,9 +50,8 @@ pub trait DecodeItems: Decoder {
         Self: Sized,
         ensures ok { IfOk result
             (λ x. Reads Self.step T.schema (Self.levels self.old) (T.meaning x) self.old self.new) }
-        ensures level { OnOk result (Self.levels self.new ≡ Self.levels self.old) }
         ensures only { IfErr result (Unread Self.step Self.too_few T.schema (Self.levels self.old) self.old self.new) }
-        ensures call { DecoderCall Self.has_failed self.old self.new result }
+        ensures call { DecoderCall Self.has_failed (SameLevel Self.levels) self.old self.new result }
     {
         let value = self.decode_enumerated(tag)?;
         Ok(value)

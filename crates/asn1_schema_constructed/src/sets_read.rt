@@ -4,7 +4,7 @@ ghost use Rattle.asn1_model.specs.Value.{fields};
 ghost use Rattle.asn1_schema_laws.specs.Tables.{presence_bits};
 ghost use Rattle.asn1_schema_decode.specs.Reads.{Reads, Unread};
 ghost use Rattle.asn1_schema_constructed.specs.Sets.{set_type};
-ghost use Rattle.asn1_schema_errors.specs.Calls.{DecoderCall};
+ghost use Rattle.asn1_schema_errors.specs.Calls.{DecoderCall, SameLevel};
 
 use crate::Constructed;
 use asn1_schema_decode::{DecodeComponents, Decoder};
@@ -30,10 +30,9 @@ pub trait DecodeSet: Decoder {
         ensures ok { IfOk result
             (λ x. Reads Self.step (set_type C.table) (Self.levels self.old) (fields (C.root x) (C.added x))
             self.old self.new) }
-        ensures level { OnOk result (Self.levels self.new ≡ Self.levels self.old) }
         ensures only { IfErr result
             (Unread Self.step Self.too_few (set_type C.table) (Self.levels self.old) self.old self.new) }
-        ensures call { DecoderCall Self.has_failed self.old self.new result }
+        ensures call { DecoderCall Self.has_failed (SameLevel Self.levels) self.old self.new result }
     {
         self.begin_set(tag, extensible, optional)?;
         let components = C::decode_components(alloc, self)?;
@@ -52,10 +51,9 @@ pub trait DecodeSet: Decoder {
         ensures ok { IfOk result
             (λ x. Reads Self.step (set_type T.table) (Self.levels self.old) (fields (T.root x) (T.added x))
             self.old self.new) }
-        ensures level { OnOk result (Self.levels self.new ≡ Self.levels self.old) }
         ensures only { IfErr result
             (Unread Self.step Self.too_few (set_type T.table) (Self.levels self.old) self.old self.new) }
-        ensures call { DecoderCall Self.has_failed self.old self.new result }
+        ensures call { DecoderCall Self.has_failed (SameLevel Self.levels) self.old self.new result }
     {
         let optional = T::fields().number_of_optional_and_default_fields();
         let extensible = T::is_extensible();

@@ -7,7 +7,7 @@ ghost use Rattle.asn1_schema_laws.specs.Tables.{presence_bits, sequence_type};
 ghost use Rattle.asn1_schema_laws.specs.Parts.{part_of, part_unless};
 ghost use Rattle.asn1_schema_decode.specs.Reads.{Reads, Unread, ReadsPart, UnreadPart, ReadsOptional, UnreadOptional};
 ghost use Rattle.asn1_schema_decode.specs.Reads.{ReadsDefault, UnreadDefault, ReadsTail, UnreadTail};
-ghost use Rattle.asn1_schema_errors.specs.Calls.{DecoderCall};
+ghost use Rattle.asn1_schema_errors.specs.Calls.{DecoderCall, OneLevelMore, SameLevel};
 
 use crate::decode::{Decode, Decoder};
 use asn1_schema_constraints::Constraints;
@@ -26,10 +26,9 @@ pub trait DecodeComponents: ComponentsOf + Drop {
         ensures ok { IfOk result
             (λ x. ReadsTail D.step Self.table (D.levels decoder.old) (Self.root x) (Self.added x)
             decoder.old decoder.new) }
-        ensures level { OnOk result (D.levels decoder.new ≡ D.levels decoder.old + 1) }
         ensures only { IfErr result
             (UnreadTail D.step D.too_few Self.table (D.levels decoder.old) decoder.old decoder.new) }
-        ensures call { DecoderCall D.has_failed decoder.old decoder.new result };
+        ensures call { DecoderCall D.has_failed (OneLevelMore D.levels) decoder.old decoder.new result };
 }
 
 impl DecodeComponents for End {
@@ -73,10 +72,9 @@ pub trait DecodeSequence: Decoder {
         ensures ok { IfOk result
             (λ x. ReadsPart Self.step optional T.schema (Self.levels self.old) (part_of T.meaning x)
             self.old self.new) }
-        ensures level { OnOk result (Self.levels self.new ≡ Self.levels self.old) }
         ensures only { IfErr result
             (UnreadPart Self.step Self.too_few optional T.schema (Self.levels self.old) self.old self.new) }
-        ensures call { DecoderCall Self.has_failed self.old self.new result }
+        ensures call { DecoderCall Self.has_failed (SameLevel Self.levels) self.old self.new result }
     {
         self.decode_optional_with_tag(alloc, T::TAG)
     }
@@ -92,10 +90,9 @@ pub trait DecodeSequence: Decoder {
         ensures ok { IfOk result
             (λ x. ReadsPart Self.step optional T.schema (Self.levels self.old) (part_of T.meaning x)
             self.old self.new) }
-        ensures level { OnOk result (Self.levels self.new ≡ Self.levels self.old) }
         ensures only { IfErr result
             (UnreadPart Self.step Self.too_few optional T.schema (Self.levels self.old) self.old self.new) }
-        ensures call { DecoderCall Self.has_failed self.old self.new result }
+        ensures call { DecoderCall Self.has_failed (SameLevel Self.levels) self.old self.new result }
     {
         let value = self.decode_optional_with_tag_and_constraints(alloc, tag, &T::constraints())?;
         Ok(value)
@@ -112,11 +109,10 @@ pub trait DecodeSequence: Decoder {
         ensures ok { IfOk result
             (λ x. ReadsOptional Self.step (T.under (meant constraints.now)) (Self.levels self.old)
             (part_of T.meaning x) self.old self.new) }
-        ensures level { OnOk result (Self.levels self.new ≡ Self.levels self.old) }
         ensures only { IfErr result
             (UnreadOptional Self.step Self.too_few (T.under (meant constraints.now)) (Self.levels self.old)
             self.old self.new) }
-        ensures call { DecoderCall Self.has_failed self.old self.new result }
+        ensures call { DecoderCall Self.has_failed (SameLevel Self.levels) self.old self.new result }
     {
         self.decode_optional_with_tag_and_constraints(alloc, T::TAG, constraints)
     }
@@ -133,11 +129,10 @@ pub trait DecodeSequence: Decoder {
         ensures ok { IfOk result
             (λ x. ReadsOptional Self.step (T.under (meant constraints.now)) (Self.levels self.old)
             (part_of T.meaning x) self.old self.new) }
-        ensures level { OnOk result (Self.levels self.new ≡ Self.levels self.old) }
         ensures only { IfErr result
             (UnreadOptional Self.step Self.too_few (T.under (meant constraints.now)) (Self.levels self.old)
             self.old self.new) }
-        ensures call { DecoderCall Self.has_failed self.old self.new result }
+        ensures call { DecoderCall Self.has_failed (SameLevel Self.levels) self.old self.new result }
     {
         let present = self.get_presence_bit()?;
         if !present {
@@ -158,10 +153,9 @@ pub trait DecodeSequence: Decoder {
         ensures ok { IfOk result
             (λ x. ReadsPart Self.step optional T.schema (Self.levels self.old) (part_of T.meaning x)
             self.old self.new) }
-        ensures level { OnOk result (Self.levels self.new ≡ Self.levels self.old) }
         ensures only { IfErr result
             (UnreadPart Self.step Self.too_few optional T.schema (Self.levels self.old) self.old self.new) }
-        ensures call { DecoderCall Self.has_failed self.old self.new result }
+        ensures call { DecoderCall Self.has_failed (SameLevel Self.levels) self.old self.new result }
     {
         self.decode_optional(alloc)
     }
@@ -178,10 +172,9 @@ pub trait DecodeSequence: Decoder {
         ensures ok { IfOk result
             (λ x. ReadsPart Self.step (by_default V.value) T.schema (Self.levels self.old)
             (part_unless (same (T.meaning x) V.value) (T.meaning x)) self.old self.new) }
-        ensures level { OnOk result (Self.levels self.new ≡ Self.levels self.old) }
         ensures only { IfErr result
             (UnreadPart Self.step Self.too_few (by_default V.value) T.schema (Self.levels self.old) self.old self.new) }
-        ensures call { DecoderCall Self.has_failed self.old self.new result }
+        ensures call { DecoderCall Self.has_failed (SameLevel Self.levels) self.old self.new result }
     {
         self.decode_default_with_tag::<V, T>(alloc, T::TAG)
     }
@@ -197,10 +190,9 @@ pub trait DecodeSequence: Decoder {
         ensures ok { IfOk result
             (λ x. ReadsPart Self.step (by_default V.value) T.schema (Self.levels self.old)
             (part_unless (same (T.meaning x) V.value) (T.meaning x)) self.old self.new) }
-        ensures level { OnOk result (Self.levels self.new ≡ Self.levels self.old) }
         ensures only { IfErr result
             (UnreadPart Self.step Self.too_few (by_default V.value) T.schema (Self.levels self.old) self.old self.new) }
-        ensures call { DecoderCall Self.has_failed self.old self.new result }
+        ensures call { DecoderCall Self.has_failed (SameLevel Self.levels) self.old self.new result }
     {
         let value = self.decode_default_with_tag_and_constraints::<V, T>(
             alloc,
@@ -221,11 +213,10 @@ pub trait DecodeSequence: Decoder {
         ensures ok { IfOk result
             (λ x. ReadsDefault Self.step (T.under (meant constraints.now)) (Self.levels self.old) V.value
             (T.meaning x) self.old self.new) }
-        ensures level { OnOk result (Self.levels self.new ≡ Self.levels self.old) }
         ensures only { IfErr result
             (UnreadDefault Self.step Self.too_few (T.under (meant constraints.now)) (Self.levels self.old) V.value
             self.old self.new) }
-        ensures call { DecoderCall Self.has_failed self.old self.new result }
+        ensures call { DecoderCall Self.has_failed (SameLevel Self.levels) self.old self.new result }
     {
         self.decode_default_with_tag_and_constraints::<V, T>(alloc, T::TAG, constraints)
     }
@@ -242,11 +233,10 @@ pub trait DecodeSequence: Decoder {
         ensures ok { IfOk result
             (λ x. ReadsDefault Self.step (T.under (meant constraints.now)) (Self.levels self.old) V.value
             (T.meaning x) self.old self.new) }
-        ensures level { OnOk result (Self.levels self.new ≡ Self.levels self.old) }
         ensures only { IfErr result
             (UnreadDefault Self.step Self.too_few (T.under (meant constraints.now)) (Self.levels self.old) V.value
             self.old self.new) }
-        ensures call { DecoderCall Self.has_failed self.old self.new result }
+        ensures call { DecoderCall Self.has_failed (SameLevel Self.levels) self.old self.new result }
     {
         let is_there = self.get_presence_bit()?;
         if !is_there {
@@ -277,10 +267,9 @@ pub trait DecodeSequence: Decoder {
         ensures ok { IfOk result
             (λ x. Reads Self.step (sequence_type C.table) (Self.levels self.old) (fields (C.root x) (C.added x))
             self.old self.new) }
-        ensures level { OnOk result (Self.levels self.new ≡ Self.levels self.old) }
         ensures only { IfErr result
             (Unread Self.step Self.too_few (sequence_type C.table) (Self.levels self.old) self.old self.new) }
-        ensures call { DecoderCall Self.has_failed self.old self.new result }
+        ensures call { DecoderCall Self.has_failed (SameLevel Self.levels) self.old self.new result }
     {
         self.begin_sequence(tag, false, optional)?;
         let components = C::decode_components(alloc, self)?;

@@ -22,11 +22,11 @@ ghost use Rattle.asn1_schema_types.specs.Told.{asks_list_under, asks_bag_under};
 ghost use Rattle.asn1_schema_decode.specs.Reads.{NoRecord, NoLevel, Reads, Unread};
 ghost use Rattle.asn1_schema_lacking_laws.specs.Carried.{CarriesMembers, CarriesRecords, CarriesValues};
 ghost use Rattle.asn1_schema_decode.specs.Answers.{Begins, is_admitted};
-ghost use Rattle.asn1_schema_errors.specs.Calls.{DecoderCall};
+ghost use Rattle.asn1_schema_errors.specs.Calls.{DecoderCall, OneLevelLess, OneLevelMore, SameLevel};
 
 use asn1_schema_constraints::{Bounded, Constraints};
 use asn1_schema_errors::{CodecKind, DecodeError};
-use asn1_schema_tags::{Chosen, Enumerated, Tag, TagTables};
+use asn1_schema_tags::{Chosen, Enumerated, EnumerationItems, Tag, TagTables, TypeItems};
 use asn1_schema_types::AsnType;
 use asn1_values_alphabets::StaticPermittedAlphabet;
 use asn1_values_bit_strings::BitString;
@@ -143,18 +143,16 @@ pub trait Decoder {
     /// BOOLEAN (X.680 18). Allocates nothing.
     fn decode_bool(&mut self, tag: Tag) -> Result<bool, DecodeError>
         ensures ok { IfOk result (λ x. step self.old (flag x) self.new) }
-        ensures level { OnOk result (levels self.new ≡ levels self.old) }
         ensures only { IfErr result (NoRecord step too_few asks_flag self.old self.new) }
         ensures no_memory { IfErr result (λ e. e ≡ DecodeError.OutOfMemory → ⊥) }
-        ensures call { DecoderCall has_failed self.old self.new result };
+        ensures call { DecoderCall has_failed (SameLevel levels) self.old self.new result };
 
     /// NULL (X.680 24). Allocates nothing.
     fn decode_null(&mut self, tag: Tag) -> Result<(), DecodeError>
         ensures ok { OnOk result (step self.old nil self.new) }
-        ensures level { OnOk result (levels self.new ≡ levels self.old) }
         ensures only { IfErr result (NoRecord step too_few asks_nil self.old self.new) }
         ensures no_memory { IfErr result (λ e. e ≡ DecodeError.OutOfMemory → ⊥) }
-        ensures call { DecoderCall has_failed self.old self.new result };
+        ensures call { DecoderCall has_failed (SameLevel levels) self.old self.new result };
 
     /// INTEGER (X.680 19) under a value constraint. The number satisfies the constraint, unless that has an extension
     /// marker.
@@ -166,18 +164,35 @@ pub trait Decoder {
     ) -> Result<I, DecodeError>
         ensures ok { IfOk result (λ x. step self.old (whole_under constraints.now I.held (I.value x)) self.new) }
         ensures within { IfOk result (λ x. is_admitted constraints.now (I.value x) ≡ true) }
-        ensures level { OnOk result (levels self.new ≡ levels self.old) }
         ensures only { IfErr result
             (NoRecord step too_few (asks_whole_under constraints.now I.held) self.old self.new) }
-        ensures call { DecoderCall has_failed self.old self.new result };
+        ensures call { DecoderCall has_failed (SameLevel levels) self.old self.new result };
+
+    /// ENUMERATED (X.680 20): an item of these items.
+    fn decode_item_of<I: EnumerationItems>(
+        &mut self,
+        tag: Tag,
+        items: &I,
+    ) -> Result<I::Item, DecodeError>
+        ensures ok { IfOk result (λ x. step self.old
+            (one_of (I.roots items.now) (I.extensible items.now) (I.additions items.now) (I.number x)) self.new) }
+        ensures only { IfErr result (NoRecord step too_few
+            (asks_one_of (I.roots items.now) (I.extensible items.now) (I.additions items.now)) self.old self.new) }
+        ensures call { DecoderCall has_failed (SameLevel levels) self.old self.new result };
 
     /// ENUMERATED (X.680 20): an item of the type.
-    fn decode_enumerated<T: Enumerated>(&mut self, tag: Tag) -> Result<T, DecodeError>
+    #[inline(always)]
+    final fn decode_enumerated<T: Enumerated>(&mut self, tag: Tag) -> Result<T, DecodeError>
+    where
+        Self: Sized,
         ensures ok { IfOk result (λ x. step self.old (one_of T.roots T.extensible T.additions (T.number x)) self.new) }
-        ensures level { OnOk result (levels self.new ≡ levels self.old) }
         ensures only { IfErr result
             (NoRecord step too_few (asks_one_of T.roots T.extensible T.additions) self.old self.new) }
-        ensures call { DecoderCall has_failed self.old self.new result };
+        ensures call { DecoderCall has_failed (SameLevel levels) self.old self.new result }
+    {
+        let value = self.decode_item_of(tag, &TypeItems::<T>::new())?;
+        Ok(value)
+    }
 
     /// BIT STRING (X.680 22) under a size constraint; `held` bounds the number of bits that the user-defined type can
     /// hold.
@@ -190,9 +205,8 @@ pub trait Decoder {
     ) -> Result<BitString, DecodeError>
         ensures ok { IfOk result (λ x. step self.old (bits_under constraints.now held x) self.new) }
         ensures held { IfOk result (λ x. is_count_within (counts_of held) (length x) ≡ true) }
-        ensures level { OnOk result (levels self.new ≡ levels self.old) }
         ensures only { IfErr result (NoRecord step too_few (asks_bits_under constraints.now held) self.old self.new) }
-        ensures call { DecoderCall has_failed self.old self.new result };
+        ensures call { DecoderCall has_failed (SameLevel levels) self.old self.new result };
 
     /// OCTET STRING (X.680 23) under a size constraint; `held` bounds the number of octets that the user-defined type
     /// can hold. The octets are borrowed if they are contiguous in the input.
@@ -209,9 +223,8 @@ pub trait Decoder {
         ensures lent { IfOk result
             (λ x. lends self.old (octets_under constraints.now held (Self.Octets.items x)) self.new
             → Self.Octets.is_lent x) }
-        ensures level { OnOk result (levels self.new ≡ levels self.old) }
         ensures only { IfErr result (NoRecord step too_few (asks_octets_under constraints.now held) self.old self.new) }
-        ensures call { DecoderCall has_failed self.old self.new result };
+        ensures call { DecoderCall has_failed (SameLevel levels) self.old self.new result };
 
     /// UTF8String (X.680 41) under a size constraint.
     fn decode_utf8_string(
@@ -222,10 +235,9 @@ pub trait Decoder {
     ) -> Result<String, DecodeError>
         ensures ok { IfOk result
             (λ x. step self.old (characters_under utf8 constraints.now (string_bytes x)) self.new) }
-        ensures level { OnOk result (levels self.new ≡ levels self.old) }
         ensures only { IfErr result
             (NoRecord step too_few (asks_characters_under utf8 constraints.now) self.old self.new) }
-        ensures call { DecoderCall has_failed self.old self.new result };
+        ensures call { DecoderCall has_failed (SameLevel levels) self.old self.new result };
 
     /// A restricted character string (X.680 41) of a kind with a permitted alphabet, under size and alphabet
     /// constraints.
@@ -237,10 +249,9 @@ pub trait Decoder {
     ) -> Result<S, DecodeError>
         ensures ok { IfOk result
             (λ x. step self.old (characters_under S.kind constraints.now (S.characters x)) self.new) }
-        ensures level { OnOk result (levels self.new ≡ levels self.old) }
         ensures only { IfErr result
             (NoRecord step too_few (asks_characters_under S.kind constraints.now) self.old self.new) }
-        ensures call { DecoderCall has_failed self.old self.new result };
+        ensures call { DecoderCall has_failed (SameLevel levels) self.old self.new result };
 
     /// OBJECT IDENTIFIER (X.680 32).
     fn decode_object_identifier(
@@ -249,9 +260,8 @@ pub trait Decoder {
         tag: Tag,
     ) -> Result<ObjectIdentifier, DecodeError>
         ensures ok { IfOk result (λ x. step self.old (identifier x) self.new) }
-        ensures level { OnOk result (levels self.new ≡ levels self.old) }
         ensures only { IfErr result (NoRecord step too_few (asks_identifier) self.old self.new) }
-        ensures call { DecoderCall has_failed self.old self.new result };
+        ensures call { DecoderCall has_failed (SameLevel levels) self.old self.new result };
 
     /// Begins a SEQUENCE OF (X.680 26) under a size constraint; `held` bounds the number of elements that the
     /// user-defined type can hold. The number of elements may not be known before its end.
@@ -263,10 +273,9 @@ pub trait Decoder {
     ) -> Result<(), DecodeError>
         ensures ok { OnOk result (Begins step held (list_begins_under constraints.now held) self.old self.new) }
         ensures begun { OnOk result (has_failed self.new → ⊥) }
-        ensures level { OnOk result (levels self.old ≡ levels self.new + 1) }
         ensures only { IfErr result
             (NoLevel step too_few (asks_list_under constraints.now held) (levels self.old) self.old self.new) }
-        ensures call { DecoderCall has_failed self.old self.new result };
+        ensures call { DecoderCall has_failed (OneLevelLess levels) self.old self.new result };
 
     /// Begins a SET OF (X.680 28) under a size constraint; `held` bounds the number of elements that the user-defined
     /// type can hold. Its elements come in any order. Their number may not be known before its end.
@@ -278,17 +287,15 @@ pub trait Decoder {
     ) -> Result<(), DecodeError>
         ensures ok { OnOk result (Begins step held (bag_begins_under constraints.now held) self.old self.new) }
         ensures begun { OnOk result (has_failed self.new → ⊥) }
-        ensures level { OnOk result (levels self.old ≡ levels self.new + 1) }
         ensures only { IfErr result
             (NoLevel step too_few (asks_bag_under constraints.now held) (levels self.old) self.old self.new) }
-        ensures call { DecoderCall has_failed self.old self.new result };
+        ensures call { DecoderCall has_failed (OneLevelLess levels) self.old self.new result };
 
     /// Whether another element follows.
     fn get_further(&mut self) -> Result<bool, DecodeError>
         ensures ok { IfOk result (λ x. step self.old (further x) self.new) }
-        ensures level { OnOk result (levels self.new ≡ levels self.old) }
         ensures only { IfErr result (NoRecord step too_few asks_further self.old self.new) }
-        ensures call { DecoderCall has_failed self.old self.new result };
+        ensures call { DecoderCall has_failed (SameLevel levels) self.old self.new result };
 
     /// Begins a SEQUENCE (X.680 25), with or without an extension marker; `optional` of its root components may be
     /// absent.
@@ -299,74 +306,65 @@ pub trait Decoder {
         optional: usize,
     ) -> Result<(), DecodeError>
         ensures ok { OnOk result (step self.old (sequence_begins extensible optional) self.new) }
-        ensures level { OnOk result (levels self.old ≡ levels self.new + 1) }
         ensures only { IfErr result
             (NoLevel step too_few (asks_sequence extensible optional) (levels self.old) self.old self.new) }
-        ensures call { DecoderCall has_failed self.old self.new result };
+        ensures call { DecoderCall has_failed (OneLevelLess levels) self.old self.new result };
 
     /// Begins a SET (X.680 27), with or without an extension marker; `optional` of its root components may be absent.
     /// They come in ascending order of their tags.
     fn begin_set(&mut self, tag: Tag, extensible: bool, optional: usize) -> Result<(), DecodeError>
         ensures ok { OnOk result (step self.old (set_begins extensible optional) self.new) }
-        ensures level { OnOk result (levels self.old ≡ levels self.new + 1) }
         ensures only { IfErr result
             (NoLevel step too_few (asks_set extensible optional) (levels self.old) self.old self.new) }
-        ensures call { DecoderCall has_failed self.old self.new result };
+        ensures call { DecoderCall has_failed (OneLevelLess levels) self.old self.new result };
 
     /// Begins an extension addition group (X.680 25.1); `optional` of its components may be absent.
     fn begin_group(&mut self, optional: usize) -> Result<(), DecodeError>
         ensures ok { OnOk result (step self.old (group_begins optional) self.new) }
-        ensures level { OnOk result (levels self.old ≡ levels self.new + 1) }
         ensures only { IfErr result (NoLevel step too_few (asks_group optional) (levels self.old) self.old self.new) }
-        ensures call { DecoderCall has_failed self.old self.new result };
+        ensures call { DecoderCall has_failed (OneLevelLess levels) self.old self.new result };
 
     /// Whether the next component that may be absent is present. Allocates nothing.
     fn get_presence_bit(&mut self) -> Result<bool, DecodeError>
         ensures ok { IfOk result (λ x. step self.old (presence_bit x) self.new) }
-        ensures level { OnOk result (levels self.new ≡ levels self.old) }
         ensures only { IfErr result (NoRecord step too_few asks_presence_bit self.old self.new) }
-        ensures call { DecoderCall has_failed self.old self.new result }
+        ensures call { DecoderCall has_failed (SameLevel levels) self.old self.new result }
         ensures no_memory { IfErr result (λ e. e ≡ DecodeError.OutOfMemory → ⊥) };
 
     /// Says that the component that was read last is equal to its default. A decoder of canonical rules, or a strict
     /// one, refuses this. Allocates nothing.
     fn note_default(&mut self) -> Result<(), DecodeError>
         ensures ok { OnOk result (step self.old is_default self.new) }
-        ensures level { OnOk result (levels self.new ≡ levels self.old) }
         ensures only { IfErr result (NoRecord step too_few asks_default self.old self.new) }
-        ensures call { DecoderCall has_failed self.old self.new result }
+        ensures call { DecoderCall has_failed (SameLevel levels) self.old self.new result }
         ensures no_memory { IfErr result (λ e. e ≡ DecodeError.OutOfMemory → ⊥) };
 
     /// Says that no component of the extension addition group that was read last is present. A decoder of canonical
     /// rules, or a strict one, refuses this. Allocates nothing.
     fn note_empty(&mut self) -> Result<(), DecodeError>
         ensures ok { OnOk result (step self.old is_empty self.new) }
-        ensures level { OnOk result (levels self.new ≡ levels self.old) }
         ensures only { IfErr result (NoRecord step too_few asks_empty self.old self.new) }
-        ensures call { DecoderCall has_failed self.old self.new result }
+        ensures call { DecoderCall has_failed (SameLevel levels) self.old self.new result }
         ensures no_memory { IfErr result (λ e. e ≡ DecodeError.OutOfMemory → ⊥) };
 
     /// Begins the `count` extension additions, after the root components of a type with an extension marker (X.680 25
     /// and 27). Further additions of the input are skipped at the end.
     fn begin_additions(&mut self, count: usize) -> Result<(), DecodeError>
         ensures ok { OnOk result (step self.old (additions_begin count) self.new) }
-        ensures level { OnOk result (levels self.new ≡ levels self.old) }
         ensures only { IfErr result (NoRecord step too_few (asks_additions count) self.old self.new) }
-        ensures call { DecoderCall has_failed self.old self.new result };
+        ensures call { DecoderCall has_failed (SameLevel levels) self.old self.new result };
 
     /// Whether the next addition is present.
     fn get_addition(&mut self) -> Result<bool, DecodeError>
         ensures ok { IfOk result (λ x. step self.old (addition x) self.new) }
-        ensures level { OnOk result (levels self.new ≡ levels self.old) }
         ensures only { IfErr result (NoRecord step too_few asks_addition self.old self.new) }
-        ensures call { DecoderCall has_failed self.old self.new result };
+        ensures call { DecoderCall has_failed (SameLevel levels) self.old self.new result };
 
     /// Ends an addition that is present.
     fn end_addition(&mut self) -> Result<(), DecodeError>
         ensures ok { OnOk result (step self.old addition_ends self.new) }
-        ensures level { OnOk result (levels self.new ≡ levels self.old) }
         ensures only { IfErr result (NoRecord step too_few asks_addition_end self.old self.new) }
-        ensures call { DecoderCall has_failed self.old self.new result };
+        ensures call { DecoderCall has_failed (SameLevel levels) self.old self.new result };
 
     /// Begins a CHOICE (X.680 29), given the tags of its alternatives and whether it has an extension marker, and
     /// returns the chosen alternative. `end` is called after the value of the alternative.
@@ -374,18 +372,16 @@ pub trait Decoder {
         ensures ok { IfOk result (λ x. step self.old
             (choice_begins tables.now.roots tables.now.extensible tables.now.additions x.added x.place) self.new) }
         ensures within { IfOk result (λ x. x.place < length (cond x.added tables.now.additions tables.now.roots)) }
-        ensures level { OnOk result (levels self.old ≡ levels self.new + 1) }
         ensures only { IfErr result
             (NoLevel step too_few (asks_choice tables.now.roots tables.now.extensible tables.now.additions)
             (levels self.old) self.old self.new) }
-        ensures call { DecoderCall has_failed self.old self.new result };
+        ensures call { DecoderCall has_failed (OneLevelLess levels) self.old self.new result };
 
     /// Ends what was begun last and has not ended.
     fn end(&mut self) -> Result<(), DecodeError>
         ensures ok { OnOk result (step self.old ends self.new) }
-        ensures level { OnOk result (levels self.new ≡ levels self.old + 1) }
         ensures only { IfErr result (NoRecord step too_few asks_end self.old self.new) }
-        ensures call { DecoderCall has_failed self.old self.new result };
+        ensures call { DecoderCall has_failed (OneLevelMore levels) self.old self.new result };
 
     /// The decoder fails for this reason: the user-defined type cannot hold what was decoded.
     fn refuse(&mut self, error: DecodeError) -> DecodeError
@@ -439,11 +435,10 @@ pub trait Decode: AsnType + Drop {
         ensures ok { IfOk result
             (λ x. Reads D.step (Self.under (meant constraints.now)) (D.levels decoder.old) (Self.meaning x)
             decoder.old decoder.new) }
-        ensures level { OnOk result (D.levels decoder.new ≡ D.levels decoder.old) }
         ensures only { IfErr result
             (Unread D.step D.too_few (Self.under (meant constraints.now)) (D.levels decoder.old)
             decoder.old decoder.new) }
-        ensures call { DecoderCall D.has_failed decoder.old decoder.new result };
+        ensures call { DecoderCall D.has_failed (SameLevel D.levels) decoder.old decoder.new result };
 
     /// Reads a value of the type, whose records are next, and returns the Rust value of its normal form.
     #[inline(always)]
@@ -452,10 +447,9 @@ pub trait Decode: AsnType + Drop {
         Self: Sized,
         ensures ok { IfOk result
             (λ x. Reads D.step Self.schema (D.levels decoder.old) (Self.meaning x) decoder.old decoder.new) }
-        ensures level { OnOk result (D.levels decoder.new ≡ D.levels decoder.old) }
         ensures only { IfErr result
             (Unread D.step D.too_few Self.schema (D.levels decoder.old) decoder.old decoder.new) }
-        ensures call { DecoderCall D.has_failed decoder.old decoder.new result }
+        ensures call { DecoderCall D.has_failed (SameLevel D.levels) decoder.old decoder.new result }
     {
         Self::decode_with_tag(alloc, decoder, Self::TAG)
     }
@@ -471,10 +465,9 @@ pub trait Decode: AsnType + Drop {
         Self: Sized,
         ensures ok { IfOk result
             (λ x. Reads D.step Self.schema (D.levels decoder.old) (Self.meaning x) decoder.old decoder.new) }
-        ensures level { OnOk result (D.levels decoder.new ≡ D.levels decoder.old) }
         ensures only { IfErr result
             (Unread D.step D.too_few Self.schema (D.levels decoder.old) decoder.old decoder.new) }
-        ensures call { DecoderCall D.has_failed decoder.old decoder.new result }
+        ensures call { DecoderCall D.has_failed (SameLevel D.levels) decoder.old decoder.new result }
     {
         let value = Self::decode_with_tag_and_constraints(
             alloc,
@@ -497,11 +490,10 @@ pub trait Decode: AsnType + Drop {
         ensures ok { IfOk result
             (λ x. Reads D.step (Self.under (meant constraints.now)) (D.levels decoder.old) (Self.meaning x)
             decoder.old decoder.new) }
-        ensures level { OnOk result (D.levels decoder.new ≡ D.levels decoder.old) }
         ensures only { IfErr result
             (Unread D.step D.too_few (Self.under (meant constraints.now)) (D.levels decoder.old)
             decoder.old decoder.new) }
-        ensures call { DecoderCall D.has_failed decoder.old decoder.new result }
+        ensures call { DecoderCall D.has_failed (SameLevel D.levels) decoder.old decoder.new result }
     {
         Self::decode_with_tag_and_constraints(alloc, decoder, Self::TAG, constraints)
     }

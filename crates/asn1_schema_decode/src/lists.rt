@@ -8,7 +8,7 @@ ghost use Rattle.asn1_schema_laws.specs.Parts.{values_of};
 ghost use Rattle.asn1_schema_types.specs.Told.{list_under};
 ghost use Rattle.asn1_schema_decode.specs.Reads.{Reads, Unread, ReadsMembers, UnreadMembers};
 ghost use Rattle.std.specs.Option.{option_map_or};
-ghost use Rattle.asn1_schema_errors.specs.Calls.{DecoderCall};
+ghost use Rattle.asn1_schema_errors.specs.Calls.{DecoderCall, SameLevel};
 
 use crate::decode::{Decode, Decoder};
 use asn1_schema_constraints::{Bounded, Constraints};
@@ -34,11 +34,10 @@ pub trait DecodeList: Decoder {
             (λ x. Reads Self.step (list_under constraints.now held T.schema) (Self.levels self.old)
             (members (values_of T.meaning x.items)) self.old self.new) }
         ensures held { IfOk result (λ x. is_count_within (members_of held) (length x.items) ≡ true) }
-        ensures level { OnOk result (Self.levels self.new ≡ Self.levels self.old) }
         ensures only { IfErr result
             (Unread Self.step Self.too_few (list_under constraints.now held T.schema) (Self.levels self.old)
             self.old self.new) }
-        ensures call { DecoderCall Self.has_failed self.old self.new result }
+        ensures call { DecoderCall Self.has_failed (SameLevel Self.levels) self.old self.new result }
     {
         self.begin_list(tag, constraints, held)?;
         let items = members_within(alloc, self, held)?;

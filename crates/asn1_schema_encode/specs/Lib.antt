@@ -1,4 +1,4 @@
-pub mod Fronts
+pub mod EarlierOctets
 pub mod Told
 pub mod Writes
 pub mod Written

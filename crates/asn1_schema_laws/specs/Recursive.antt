@@ -1,4 +1,4 @@
--- Recursive types.
+-- A recursive SEQUENCE, unfolded to a number of nested levels (X.680 25).
 use Rattle.std.specs.Prelude.{ℕ, zero, suc}
 use Rattle.asn1_model.specs.Schema.{Schema, cut}
 use Rattle.asn1_schema_laws.specs.Tables.{Table, sequence_type}

@@ -8,7 +8,7 @@ use Rattle.std.specs.declared.cmp.Ordering.TheVariants.{Less, Equal, Greater}
 use Rattle.std.proofs.Math.Nat.{mul-le-mul_right, pow-suc}
 use Rattle.std.proofs.lemmas.Cmp.{nat_list_cmp_total}
 use Rattle.std.proofs.lemmas.Nat.{mul-add-lt}
-use Rattle.asn1_schema_order.specs.Fronts.{leading}
+use Rattle.asn1_schema_order.specs.LeadingOctets.{leading}
 
 -- each is below 256
 abbrev pub AreOctets : List ℕ → Type 0

@@ -4,7 +4,7 @@ use Rattle.std.specs.Ordering.{is_lt}
 use Rattle.std.proofs.lemmas.List.{take_all, take_more, length-take-le}
 use Rattle.asn1_schema_order.specs.declared.encodings.Entry.{Entry}
 use Rattle.asn1_schema_order.specs.Entries.{octets_of, ArePlaced}
-use Rattle.asn1_schema_order.specs.Fronts.{leading, fronted}
+use Rattle.asn1_schema_order.specs.LeadingOctets.{leading, fronted}
 use Rattle.asn1_schema_order.proofs.Ascending.{Each, each_push, less}
 use Rattle.asn1_schema_order.proofs.Leading.{AreOctets, leads}
 

@@ -1,4 +1,4 @@
--- Entries of encodings.
+-- Encodings with their indices, and their ascending order (X.691 22, X.696 19).
 use Rattle.std.specs.Prelude.{◌≡◌, ℕ, suc, List, [], ◌∷◌, Some, ltb}
 use Rattle.asn1_model.specs.Form.{ascending, stands_before}
 use Rattle.asn1_schema_order.specs.declared.encodings.Entry.{Entry}

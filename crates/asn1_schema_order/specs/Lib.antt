@@ -1,3 +1,3 @@
 pub mod Entries
-pub mod Fronts
+pub mod LeadingOctets
 pub mod Spans

@@ -3,7 +3,7 @@ ghost use Rattle.std.specs.Prelude.{◌≡◌, ◌++◌, ◌<◌, [], ◌∷◌,
 ghost use Rattle.std.specs.Cmp.Lexicographic.{slice_cmp};
 ghost use Rattle.std.specs.Ordering.{nat_cmp};
 ghost use Rattle.asn1_schema_order.specs.Entries.{octets_of, AreInOrder};
-ghost use Rattle.asn1_schema_order.specs.Fronts.{leading, fronted};
+ghost use Rattle.asn1_schema_order.specs.LeadingOctets.{leading, fronted};
 
 use std::alloc::{AllocError, Global};
 use std::cmp::Ordering;

@@ -14,7 +14,8 @@ some_octets (negsuc n) = omega (arith, length-complement (signed_octets (negsuc 
 pub not_empty : (os : List ℕ) (z : ℤ) → os ≡ signed_octets_of z → length os ≡ 0 → ⊥
 not_empty os z e h = omega (arith, some_octets z, ap length e)
 
-pub only_memory : (r : Result ℤ IntegerError) (os : List ℕ) (z : ℤ) → os ≡ signed_octets_of z → (r ≡ Err Empty → length os ≡ 0) → (r ≡ Err Overflow → ⊥) → (r ≡ Err Memory → 2 ^ 128 ≤ plain (signed_number os))
+pub only_memory : (r : Result ℤ IntegerError) (os : List ℕ) (z : ℤ) → os ≡ signed_octets_of z → (r ≡ Err Empty → length os ≡ 0) →
+    (r ≡ Err Overflow → ⊥) → (r ≡ Err Memory → 2 ^ 128 ≤ plain (signed_number os))
     → IfErr r (λ e. (e ≡ Memory) × (2 ^ 128 ≤ plain z))
 only_memory (Ok x) os z e f g h = tt
 only_memory (Err Empty) os z e f g h = absurd (not_empty os z e (f refl))

@@ -19,5 +19,7 @@ pub puts_characters : (a b : Written) (t : StringKind) → ((cs : List ℕ) → 
     → (a.failed ≡ false) × (b ≡ record { records = a.records ++ characters visible y any_alphabet any_count cs ∷ []; failed = false; rules = a.rules })
     → Puts a (characters t z l h ds) b
 puts_characters a b t law {y} {z} l h {cs} {ds} d e p =
-    let f : characters visible y any_alphabet any_count cs ≡ kept (characters t z l h ds) = ap (λ (s : StringKind). characters s y any_alphabet any_count cs) (sym (kind_kept t law)) ∙ (ap (λ (u : Size). characters (kept_kind t) u any_alphabet any_count cs) d ∙ ap (λ (xs : List ℕ). characters (kept_kind t) z any_alphabet any_count xs) e) in
+    let f : characters visible y any_alphabet any_count cs ≡ kept (characters t z l h ds) =
+    ap (λ (s : StringKind). characters s y any_alphabet any_count cs) (sym (kind_kept t law)) ∙
+    (ap (λ (u : Size). characters (kept_kind t) u any_alphabet any_count cs) d ∙ ap (λ (xs : List ℕ). characters (kept_kind t) z any_alphabet any_count xs) e) in
     (p.0, p.1 ∙ ap (λ (r : Record). let w : Written = record { records = a.records ++ r ∷ []; failed = false; rules = a.rules } in w) f)

@@ -20,7 +20,8 @@ bounds_are l m e f g =
     ∙ (ap (λ (t : Option ℤ). let b : Bounds = record { range = record { low = m.low; high = t }; extensible = l.extensible } in b) f
     ∙ ap (λ (t : Bool). let b : Bounds = record { range = record { low = m.low; high = m.high }; extensible = t } in b) g)
 
-pub limits_tell : (l m : Limits) (b : Bounds) (t : Bool) → t ≡ (option_eq int_eq l.low m.low && (option_eq int_eq l.high m.high && beq l.extensible m.extensible)) → bounds_in m ≡ b → Decides t (bounds_in l ≡ b)
+pub limits_tell : (l m : Limits) (b : Bounds) (t : Bool) → t
+    ≡ (option_eq int_eq l.low m.low && (option_eq int_eq l.high m.high && beq l.extensible m.extensible)) → bounds_in m ≡ b → Decides t (bounds_in l ≡ b)
 limits_tell l m b t e f = Decides-like t (λ p. bounds_are l m p.0 p.1.0 p.1.1 ∙ f)
     (λ p. let q : bounds_in l ≡ bounds_in m = p ∙ sym f in (ap (λ (u : Bounds). u.range.low) q, (ap (λ (u : Bounds). u.range.high) q, ap (λ (u : Bounds). u.extensible) q)))
     (Decides-at _ _ e (Decides-and _ _ (ends_tell l.low m.low) (Decides-and _ _ (ends_tell l.high m.high) (booleans_Decides l.extensible m.extensible))))

@@ -27,14 +27,14 @@ ghost use Rattle.asn1_schema_records.specs.Taken.{Takes, Leaves, Begins, Fails, 
 ghost use Rattle.asn1_schema_records.specs.Taken.{IsRefusedFirst, IsOtherThan, IsOtherKind, IsOtherEnd, IsMisfit};
 ghost use Rattle.asn1_schema_records.specs.Taken.{IsMisfitItem, IsMisfitChoice, IsMisfitText, IsMisfitNumber};
 ghost use Rattle.asn1_schema_records.specs.Taken.{kept_bits, kept_octets, kept_text, kept_list, kept_bag};
-ghost use Rattle.asn1_schema_errors.specs.Calls.{DecoderCall};
+ghost use Rattle.asn1_schema_errors.specs.Calls.{DecoderCall, OneLevelLess, OneLevelMore, SameLevel};
 
 use crate::fitting::{are_sizes, is_alternative, number_within, string_of};
 use crate::{Item, is_extensible};
 use asn1_schema_constraints::{Bounded, Constraints};
 use asn1_schema_decode::{Decoder, go_on};
 use asn1_schema_errors::{CodecKind, DecodeError};
-use asn1_schema_tags::{Chosen, Enumerated, Tag, TagTables};
+use asn1_schema_tags::{Chosen, EnumerationItems, Tag, TagTables};
 use asn1_values_alphabets::StaticPermittedAlphabet;
 use asn1_values_bit_strings::BitString;
 use asn1_values_identifiers::ObjectIdentifier;
@@ -116,7 +116,7 @@ impl RecordDecoder {
         ensures ok { IfOk result (λ item. Leaves self.old (record_of item) self.new) }
         ensures only { IfErr result (IsSpent self.old) }
         ensures fails { OnErr result (Fails self.old self.new) }
-        ensures call { DecoderCall (λ s. s.failed ≡ true) self.old self.new result }
+        ensures call { DecoderCall (λ s. s.failed ≡ true) (SameLevel (λ s. s.levels)) self.old self.new result }
     {
         go_on(self.failed)?;
         match self.items.next() {
@@ -130,7 +130,7 @@ impl RecordDecoder {
         ensures ok { IfOk result (λ item. Begins self.old (record_of item) self.new) }
         ensures only { IfErr result (IsDeep self.old) }
         ensures fails { OnErr result (Fails self.old self.new) }
-        ensures call { DecoderCall (λ s. s.failed ≡ true) self.old self.new result }
+        ensures call { DecoderCall (λ s. s.failed ≡ true) (OneLevelLess (λ s. s.levels)) self.old self.new result }
     {
         go_on(self.failed)?;
         if self.levels == 0 {
@@ -190,10 +190,9 @@ impl Decoder for RecordDecoder {
 
     fn decode_bool(&mut self, _tag: Tag) -> Result<bool, DecodeError>
         ensures ok { IfOk result (λ x. Takes self.old (flag x) self.new) }
-        ensures level { OnOk result (self.new.levels ≡ self.old.levels) }
         ensures only { IfErr result (NoRecord Takes AtOnce asks_flag self.old self.new) }
         ensures no_memory { IfErr result (λ e. e ≡ DecodeError.OutOfMemory → ⊥) }
-        ensures call { DecoderCall (λ s. s.failed ≡ true) self.old self.new result }
+        ensures call { DecoderCall (λ s. s.failed ≡ true) (SameLevel (λ s. s.levels)) self.old self.new result }
         ensures kind { IfErr result (IsRefused self.old (IsOtherKind flag)) }
     {
         let item = self.take_next()?;
@@ -205,10 +204,9 @@ impl Decoder for RecordDecoder {
 
     fn decode_null(&mut self, _tag: Tag) -> Result<(), DecodeError>
         ensures ok { OnOk result (Takes self.old nil self.new) }
-        ensures level { OnOk result (self.new.levels ≡ self.old.levels) }
         ensures only { IfErr result (NoRecord Takes AtOnce asks_nil self.old self.new) }
         ensures no_memory { IfErr result (λ e. e ≡ DecodeError.OutOfMemory → ⊥) }
-        ensures call { DecoderCall (λ s. s.failed ≡ true) self.old self.new result }
+        ensures call { DecoderCall (λ s. s.failed ≡ true) (SameLevel (λ s. s.levels)) self.old self.new result }
         ensures kind { IfErr result (IsRefused self.old (IsOtherThan nil)) }
     {
         let item = self.take_next()?;
@@ -229,10 +227,9 @@ impl Decoder for RecordDecoder {
         ensures ok { IfOk result (λ x. Takes self.old (whole_under constraints.now I.held (I.value x)) self.new) }
         ensures within { IfOk result (λ x. ((bounds_of constraints.now.value).extensible
             || is_within ((bounds_of constraints.now.value).range) (I.value x)) ≡ true) }
-        ensures level { OnOk result (self.new.levels ≡ self.old.levels) }
         ensures only { IfErr result
             (NoRecord Takes AtOnce (asks_whole_under constraints.now I.held) self.old self.new) }
-        ensures call { DecoderCall (λ s. s.failed ≡ true) self.old self.new result }
+        ensures call { DecoderCall (λ s. s.failed ≡ true) (SameLevel (λ s. s.levels)) self.old self.new result }
         ensures kind { IfErr result (IsRefused self.old (IsMisfitNumber constraints.now.value I.held)) }
     {
         let item = self.take_next()?;
@@ -248,19 +245,24 @@ impl Decoder for RecordDecoder {
         }
     }
 
-    fn decode_enumerated<T: Enumerated>(&mut self, _tag: Tag) -> Result<T, DecodeError>
-        ensures ok { IfOk result (λ x. Takes self.old (one_of T.roots T.extensible T.additions (T.number x)) self.new) }
-        ensures level { OnOk result (self.new.levels ≡ self.old.levels) }
-        ensures only { IfErr result
-            (NoRecord Takes AtOnce (asks_one_of T.roots T.extensible T.additions) self.old self.new) }
-        ensures call { DecoderCall (λ s. s.failed ≡ true) self.old self.new result }
-        ensures kind { IfErr result (IsRefused self.old (IsMisfitItem T.roots T.extensible T.additions)) }
+    fn decode_item_of<I: EnumerationItems>(
+        &mut self,
+        _tag: Tag,
+        items: &I,
+    ) -> Result<I::Item, DecodeError>
+        ensures ok { IfOk result (λ x. Takes self.old
+            (one_of (I.roots items.now) (I.extensible items.now) (I.additions items.now) (I.number x)) self.new) }
+        ensures only { IfErr result (NoRecord Takes AtOnce
+            (asks_one_of (I.roots items.now) (I.extensible items.now) (I.additions items.now)) self.old self.new) }
+        ensures call { DecoderCall (λ s. s.failed ≡ true) (SameLevel (λ s. s.levels)) self.old self.new result }
+        ensures kind { IfErr result (IsRefused self.old
+            (IsMisfitItem (I.roots items.now) (I.extensible items.now) (I.additions items.now))) }
     {
         let item = self.take_next()?;
-        let Some(number) = item.into_one_of(is_extensible::<T>()) else {
+        let Some(number) = item.into_one_of(is_extensible(items)) else {
             return Err(self.refuse(DecodeError::NotValidCanonicalEncoding));
         };
-        match T::from_discriminant(number) {
+        match items.find(number) {
             Some(value) => Ok(value),
             None => Err(self.refuse(DecodeError::DiscriminantValueNotFound)),
         }
@@ -275,9 +277,8 @@ impl Decoder for RecordDecoder {
     ) -> Result<BitString, DecodeError>
         ensures ok { IfOk result (λ x. Takes self.old (bits_under constraints.now held x) self.new) }
         ensures held { IfOk result (λ x. is_count_within (counts_of held) (length x) ≡ true) }
-        ensures level { OnOk result (self.new.levels ≡ self.old.levels) }
         ensures only { IfErr result (NoRecord Takes AtOnce (asks_bits_under constraints.now held) self.old self.new) }
-        ensures call { DecoderCall (λ s. s.failed ≡ true) self.old self.new result }
+        ensures call { DecoderCall (λ s. s.failed ≡ true) (SameLevel (λ s. s.levels)) self.old self.new result }
         ensures kind { IfErr result
             (IsRefused self.old (IsMisfit kept_bits length (sizes_of constraints.now.size) (counts_of held))) }
     {
@@ -301,10 +302,9 @@ impl Decoder for RecordDecoder {
         ensures ok { IfOk result (λ x. Takes self.old (octets_under constraints.now held x.items) self.new) }
         ensures held { IfOk result (λ x. is_count_within (counts_of held) (length x.items) ≡ true) }
         ensures lent { IfOk result (λ x. ⊥ → ⊥) }
-        ensures level { OnOk result (self.new.levels ≡ self.old.levels) }
         ensures only { IfErr result
             (NoRecord Takes AtOnce (asks_octets_under constraints.now held) self.old self.new) }
-        ensures call { DecoderCall (λ s. s.failed ≡ true) self.old self.new result }
+        ensures call { DecoderCall (λ s. s.failed ≡ true) (SameLevel (λ s. s.levels)) self.old self.new result }
         ensures kind { IfErr result
             (IsRefused self.old (IsMisfit kept_octets length (sizes_of constraints.now.size) (counts_of held))) }
     {
@@ -326,10 +326,9 @@ impl Decoder for RecordDecoder {
     ) -> Result<String, DecodeError>
         ensures ok { IfOk result
             (λ x. Takes self.old (characters_under utf8 constraints.now (string_bytes x)) self.new) }
-        ensures level { OnOk result (self.new.levels ≡ self.old.levels) }
         ensures only { IfErr result
             (NoRecord Takes AtOnce (asks_characters_under utf8 constraints.now) self.old self.new) }
-        ensures call { DecoderCall (λ s. s.failed ≡ true) self.old self.new result }
+        ensures call { DecoderCall (λ s. s.failed ≡ true) (SameLevel (λ s. s.levels)) self.old self.new result }
         ensures kind { IfErr result
             (IsRefused self.old (IsMisfit kept_text length (sizes_of constraints.now.size) any_count)) }
     {
@@ -351,10 +350,9 @@ impl Decoder for RecordDecoder {
     ) -> Result<S, DecodeError>
         ensures ok { IfOk result
             (λ x. Takes self.old (characters_under S.kind constraints.now (S.characters x)) self.new) }
-        ensures level { OnOk result (self.new.levels ≡ self.old.levels) }
         ensures only { IfErr result
             (NoRecord Takes AtOnce (asks_characters_under S.kind constraints.now) self.old self.new) }
-        ensures call { DecoderCall (λ s. s.failed ≡ true) self.old self.new result }
+        ensures call { DecoderCall (λ s. s.failed ≡ true) (SameLevel (λ s. s.levels)) self.old self.new result }
         ensures kind { IfErr result (IsRefused self.old (IsMisfitText S.kind (sizes_of constraints.now.size))) }
     {
         let item = self.take_next()?;
@@ -376,9 +374,8 @@ impl Decoder for RecordDecoder {
         _tag: Tag,
     ) -> Result<ObjectIdentifier, DecodeError>
         ensures ok { IfOk result (λ x. Takes self.old (object_identifier x) self.new) }
-        ensures level { OnOk result (self.new.levels ≡ self.old.levels) }
         ensures only { IfErr result (NoRecord Takes AtOnce (asks_identifier) self.old self.new) }
-        ensures call { DecoderCall (λ s. s.failed ≡ true) self.old self.new result }
+        ensures call { DecoderCall (λ s. s.failed ≡ true) (SameLevel (λ s. s.levels)) self.old self.new result }
         ensures kind { IfErr result (IsRefused self.old (IsOtherKind object_identifier)) }
     {
         let item = self.take_next()?;
@@ -397,10 +394,9 @@ impl Decoder for RecordDecoder {
         ensures ok { OnOk result ((n : ℕ) → is_count_within (members_of held) n ≡ true
             → Takes self.old (list_begins_under constraints.now held n) self.new) }
         ensures begun { OnOk result (self.new.failed ≡ true → ⊥) }
-        ensures level { OnOk result (self.old.levels ≡ self.new.levels + 1) }
         ensures only { IfErr result
             (NoLevel Takes AtOnce (asks_list_under constraints.now held) self.old.levels self.old self.new) }
-        ensures call { DecoderCall (λ s. s.failed ≡ true) self.old self.new result }
+        ensures call { DecoderCall (λ s. s.failed ≡ true) (OneLevelLess (λ s. s.levels)) self.old self.new result }
         ensures kind { IfErr result (IsRefusedFirst self.old
             (IsMisfit kept_list (λ n. n) (sizes_of constraints.now.size) (members_of held))) }
     {
@@ -423,10 +419,9 @@ impl Decoder for RecordDecoder {
         ensures ok { OnOk result ((n : ℕ) → is_count_within (members_of held) n ≡ true
             → Takes self.old (bag_begins_under constraints.now held n) self.new) }
         ensures begun { OnOk result (self.new.failed ≡ true → ⊥) }
-        ensures level { OnOk result (self.old.levels ≡ self.new.levels + 1) }
         ensures only { IfErr result
             (NoLevel Takes AtOnce (asks_bag_under constraints.now held) self.old.levels self.old self.new) }
-        ensures call { DecoderCall (λ s. s.failed ≡ true) self.old self.new result }
+        ensures call { DecoderCall (λ s. s.failed ≡ true) (OneLevelLess (λ s. s.levels)) self.old self.new result }
         ensures kind { IfErr result (IsRefusedFirst self.old
             (IsMisfit kept_bag (λ n. n) (sizes_of constraints.now.size) (members_of held))) }
     {
@@ -442,9 +437,8 @@ impl Decoder for RecordDecoder {
 
     fn get_further(&mut self) -> Result<bool, DecodeError>
         ensures ok { IfOk result (λ x. Takes self.old (further x) self.new) }
-        ensures level { OnOk result (self.new.levels ≡ self.old.levels) }
         ensures only { IfErr result (NoRecord Takes AtOnce asks_further self.old self.new) }
-        ensures call { DecoderCall (λ s. s.failed ≡ true) self.old self.new result }
+        ensures call { DecoderCall (λ s. s.failed ≡ true) (SameLevel (λ s. s.levels)) self.old self.new result }
         ensures kind { IfErr result (IsRefused self.old (IsOtherKind further)) }
     {
         let item = self.take_next()?;
@@ -461,10 +455,9 @@ impl Decoder for RecordDecoder {
         optional: usize,
     ) -> Result<(), DecodeError>
         ensures ok { OnOk result (Takes self.old (sequence_begins extensible optional) self.new) }
-        ensures level { OnOk result (self.old.levels ≡ self.new.levels + 1) }
         ensures only { IfErr result
             (NoLevel Takes AtOnce (asks_sequence extensible optional) self.old.levels self.old self.new) }
-        ensures call { DecoderCall (λ s. s.failed ≡ true) self.old self.new result }
+        ensures call { DecoderCall (λ s. s.failed ≡ true) (OneLevelLess (λ s. s.levels)) self.old self.new result }
         ensures kind { IfErr result (IsRefusedFirst self.old (IsOtherThan (sequence_begins extensible optional))) }
     {
         let item = self.take_first()?;
@@ -478,10 +471,9 @@ impl Decoder for RecordDecoder {
 
     fn begin_set(&mut self, _tag: Tag, extensible: bool, optional: usize) -> Result<(), DecodeError>
         ensures ok { OnOk result (Takes self.old (set_begins extensible optional) self.new) }
-        ensures level { OnOk result (self.old.levels ≡ self.new.levels + 1) }
         ensures only { IfErr result
             (NoLevel Takes AtOnce (asks_set extensible optional) self.old.levels self.old self.new) }
-        ensures call { DecoderCall (λ s. s.failed ≡ true) self.old self.new result }
+        ensures call { DecoderCall (λ s. s.failed ≡ true) (OneLevelLess (λ s. s.levels)) self.old self.new result }
         ensures kind { IfErr result (IsRefusedFirst self.old (IsOtherThan (set_begins extensible optional))) }
     {
         let item = self.take_first()?;
@@ -495,9 +487,8 @@ impl Decoder for RecordDecoder {
 
     fn begin_group(&mut self, optional: usize) -> Result<(), DecodeError>
         ensures ok { OnOk result (Takes self.old (group_begins optional) self.new) }
-        ensures level { OnOk result (self.old.levels ≡ self.new.levels + 1) }
         ensures only { IfErr result (NoLevel Takes AtOnce (asks_group optional) self.old.levels self.old self.new) }
-        ensures call { DecoderCall (λ s. s.failed ≡ true) self.old self.new result }
+        ensures call { DecoderCall (λ s. s.failed ≡ true) (OneLevelLess (λ s. s.levels)) self.old self.new result }
         ensures kind { IfErr result (IsRefusedFirst self.old (IsOtherThan (group_begins optional))) }
     {
         let item = self.take_first()?;
@@ -511,9 +502,8 @@ impl Decoder for RecordDecoder {
 
     fn get_presence_bit(&mut self) -> Result<bool, DecodeError>
         ensures ok { IfOk result (λ x. Takes self.old (presence_bit x) self.new) }
-        ensures level { OnOk result (self.new.levels ≡ self.old.levels) }
         ensures only { IfErr result (NoRecord Takes AtOnce asks_presence_bit self.old self.new) }
-        ensures call { DecoderCall (λ s. s.failed ≡ true) self.old self.new result }
+        ensures call { DecoderCall (λ s. s.failed ≡ true) (SameLevel (λ s. s.levels)) self.old self.new result }
         ensures no_memory { IfErr result (λ e. e ≡ DecodeError.OutOfMemory → ⊥) }
         ensures kind { IfErr result (IsRefused self.old (IsOtherKind presence_bit)) }
     {
@@ -526,9 +516,8 @@ impl Decoder for RecordDecoder {
 
     fn note_default(&mut self) -> Result<(), DecodeError>
         ensures ok { OnOk result (Takes self.old is_default self.new) }
-        ensures level { OnOk result (self.new.levels ≡ self.old.levels) }
         ensures only { IfErr result (NoRecord Takes AtOnce asks_default self.old self.new) }
-        ensures call { DecoderCall (λ s. s.failed ≡ true) self.old self.new result }
+        ensures call { DecoderCall (λ s. s.failed ≡ true) (SameLevel (λ s. s.levels)) self.old self.new result }
         ensures no_memory { IfErr result (λ e. e ≡ DecodeError.OutOfMemory → ⊥) }
         ensures kind { IfErr result (IsRefused self.old (IsOtherThan is_default)) }
     {
@@ -543,9 +532,8 @@ impl Decoder for RecordDecoder {
 
     fn note_empty(&mut self) -> Result<(), DecodeError>
         ensures ok { OnOk result (Takes self.old is_empty self.new) }
-        ensures level { OnOk result (self.new.levels ≡ self.old.levels) }
         ensures only { IfErr result (NoRecord Takes AtOnce asks_empty self.old self.new) }
-        ensures call { DecoderCall (λ s. s.failed ≡ true) self.old self.new result }
+        ensures call { DecoderCall (λ s. s.failed ≡ true) (SameLevel (λ s. s.levels)) self.old self.new result }
         ensures no_memory { IfErr result (λ e. e ≡ DecodeError.OutOfMemory → ⊥) }
         ensures kind { IfErr result (IsRefused self.old (IsOtherThan is_empty)) }
     {
@@ -560,9 +548,8 @@ impl Decoder for RecordDecoder {
 
     fn begin_additions(&mut self, count: usize) -> Result<(), DecodeError>
         ensures ok { OnOk result (Takes self.old (additions_begin count) self.new) }
-        ensures level { OnOk result (self.new.levels ≡ self.old.levels) }
         ensures only { IfErr result (NoRecord Takes AtOnce (asks_additions count) self.old self.new) }
-        ensures call { DecoderCall (λ s. s.failed ≡ true) self.old self.new result }
+        ensures call { DecoderCall (λ s. s.failed ≡ true) (SameLevel (λ s. s.levels)) self.old self.new result }
         ensures kind { IfErr result (IsRefused self.old (IsOtherThan (additions_begin count))) }
     {
         let item = self.take_next()?;
@@ -576,9 +563,8 @@ impl Decoder for RecordDecoder {
 
     fn get_addition(&mut self) -> Result<bool, DecodeError>
         ensures ok { IfOk result (λ x. Takes self.old (addition x) self.new) }
-        ensures level { OnOk result (self.new.levels ≡ self.old.levels) }
         ensures only { IfErr result (NoRecord Takes AtOnce asks_addition self.old self.new) }
-        ensures call { DecoderCall (λ s. s.failed ≡ true) self.old self.new result }
+        ensures call { DecoderCall (λ s. s.failed ≡ true) (SameLevel (λ s. s.levels)) self.old self.new result }
         ensures kind { IfErr result (IsRefused self.old (IsOtherKind addition)) }
     {
         let item = self.take_next()?;
@@ -590,9 +576,8 @@ impl Decoder for RecordDecoder {
 
     fn end_addition(&mut self) -> Result<(), DecodeError>
         ensures ok { OnOk result (Takes self.old addition_ends self.new) }
-        ensures level { OnOk result (self.new.levels ≡ self.old.levels) }
         ensures only { IfErr result (NoRecord Takes AtOnce asks_addition_end self.old self.new) }
-        ensures call { DecoderCall (λ s. s.failed ≡ true) self.old self.new result }
+        ensures call { DecoderCall (λ s. s.failed ≡ true) (SameLevel (λ s. s.levels)) self.old self.new result }
         ensures kind { IfErr result (IsRefused self.old (IsOtherThan addition_ends)) }
     {
         let item = self.take_next()?;
@@ -608,11 +593,10 @@ impl Decoder for RecordDecoder {
         ensures ok { IfOk result (λ x. Takes self.old
             (choice_begins tables.now.roots tables.now.extensible tables.now.additions x.added x.place) self.new) }
         ensures within { IfOk result (λ x. x.place < length (cond x.added tables.now.additions tables.now.roots)) }
-        ensures level { OnOk result (self.old.levels ≡ self.new.levels + 1) }
         ensures only { IfErr result
             (NoLevel Takes AtOnce (asks_choice tables.now.roots tables.now.extensible tables.now.additions)
             self.old.levels self.old self.new) }
-        ensures call { DecoderCall (λ s. s.failed ≡ true) self.old self.new result }
+        ensures call { DecoderCall (λ s. s.failed ≡ true) (OneLevelLess (λ s. s.levels)) self.old self.new result }
         ensures kind { IfErr result (IsRefusedFirst self.old
             (IsMisfitChoice tables.now.roots tables.now.extensible tables.now.additions)) }
     {
@@ -628,9 +612,8 @@ impl Decoder for RecordDecoder {
 
     fn end(&mut self) -> Result<(), DecodeError>
         ensures ok { OnOk result (Takes self.old ends self.new) }
-        ensures level { OnOk result (self.new.levels ≡ self.old.levels + 1) }
         ensures only { IfErr result (NoRecord Takes AtOnce asks_end self.old self.new) }
-        ensures call { DecoderCall (λ s. s.failed ≡ true) self.old self.new result }
+        ensures call { DecoderCall (λ s. s.failed ≡ true) (OneLevelMore (λ s. s.levels)) self.old self.new result }
         ensures kind { IfErr result (IsRefused self.old (IsOtherEnd self.old)) }
     {
         let item = self.take_next()?;

@@ -5,7 +5,7 @@ ghost use Rattle.asn1_model.specs.Schema.{any_count, any_size};
 ghost use Rattle.asn1_schema_types.specs.Told.{characters_under, asks_characters_under};
 ghost use Rattle.asn1_schema_decode.specs.Reads.{NoRecord, Reads, Unread};
 ghost use Rattle.asn1_schema_laws.specs.Records.{octets, asks_octets};
-ghost use Rattle.asn1_schema_errors.specs.Calls.{DecoderCall};
+ghost use Rattle.asn1_schema_errors.specs.Calls.{DecoderCall, SameLevel};
 
 use crate::Any;
 use asn1_schema_constraints::{Bounded, Constraints};
@@ -26,10 +26,9 @@ pub trait DecodeNamed: Decoder {
     where
         Self: Sized,
         ensures ok { IfOk result (λ x. Self.step self.old (octets any_size any_count x) self.new) }
-        ensures level { OnOk result (Self.levels self.new ≡ Self.levels self.old) }
         ensures only { IfErr result
             (NoRecord Self.step Self.too_few (asks_octets any_size any_count) self.old self.new) }
-        ensures call { DecoderCall Self.has_failed self.old self.new result }
+        ensures call { DecoderCall Self.has_failed (SameLevel Self.levels) self.old self.new result }
     {
         let octets = self.decode_octet_string(alloc, tag, &Constraints::NONE, Bounded::None)?;
         let Ok(owned) = octets.into_vec(alloc) else {
@@ -49,9 +48,8 @@ pub trait DecodeNamed: Decoder {
         Self: Sized,
         ensures ok { IfOk result
             (λ x. Reads Self.step T.schema (Self.levels self.old) (T.meaning x) self.old self.new) }
-        ensures level { OnOk result (Self.levels self.new ≡ Self.levels self.old) }
         ensures only { IfErr result (Unread Self.step Self.too_few T.schema (Self.levels self.old) self.old self.new) }
-        ensures call { DecoderCall Self.has_failed self.old self.new result }
+        ensures call { DecoderCall Self.has_failed (SameLevel Self.levels) self.old self.new result }
     {
         T::decode(alloc, self)
     }
@@ -66,10 +64,9 @@ pub trait DecodeNamed: Decoder {
     where
         Self: Sized,
         ensures ok { IfOk result (λ x. Self.step self.old (characters_under visible constraints.now x) self.new) }
-        ensures level { OnOk result (Self.levels self.new ≡ Self.levels self.old) }
         ensures only { IfErr result
             (NoRecord Self.step Self.too_few (asks_characters_under visible constraints.now) self.old self.new) }
-        ensures call { DecoderCall Self.has_failed self.old self.new result }
+        ensures call { DecoderCall Self.has_failed (SameLevel Self.levels) self.old self.new result }
     {
         self.decode_characters(alloc, tag, constraints)
     }
@@ -84,10 +81,9 @@ pub trait DecodeNamed: Decoder {
     where
         Self: Sized,
         ensures ok { IfOk result (λ x. Self.step self.old (characters_under ia5 constraints.now x) self.new) }
-        ensures level { OnOk result (Self.levels self.new ≡ Self.levels self.old) }
         ensures only { IfErr result
             (NoRecord Self.step Self.too_few (asks_characters_under ia5 constraints.now) self.old self.new) }
-        ensures call { DecoderCall Self.has_failed self.old self.new result }
+        ensures call { DecoderCall Self.has_failed (SameLevel Self.levels) self.old self.new result }
     {
         self.decode_characters(alloc, tag, constraints)
     }
@@ -102,10 +98,9 @@ pub trait DecodeNamed: Decoder {
     where
         Self: Sized,
         ensures ok { IfOk result (λ x. Self.step self.old (characters_under printable constraints.now x) self.new) }
-        ensures level { OnOk result (Self.levels self.new ≡ Self.levels self.old) }
         ensures only { IfErr result
             (NoRecord Self.step Self.too_few (asks_characters_under printable constraints.now) self.old self.new) }
-        ensures call { DecoderCall Self.has_failed self.old self.new result }
+        ensures call { DecoderCall Self.has_failed (SameLevel Self.levels) self.old self.new result }
     {
         self.decode_characters(alloc, tag, constraints)
     }
@@ -120,10 +115,9 @@ pub trait DecodeNamed: Decoder {
     where
         Self: Sized,
         ensures ok { IfOk result (λ x. Self.step self.old (characters_under numeric constraints.now x) self.new) }
-        ensures level { OnOk result (Self.levels self.new ≡ Self.levels self.old) }
         ensures only { IfErr result
             (NoRecord Self.step Self.too_few (asks_characters_under numeric constraints.now) self.old self.new) }
-        ensures call { DecoderCall Self.has_failed self.old self.new result }
+        ensures call { DecoderCall Self.has_failed (SameLevel Self.levels) self.old self.new result }
     {
         self.decode_characters(alloc, tag, constraints)
     }
@@ -138,10 +132,9 @@ pub trait DecodeNamed: Decoder {
     where
         Self: Sized,
         ensures ok { IfOk result (λ x. Self.step self.old (characters_under general constraints.now x) self.new) }
-        ensures level { OnOk result (Self.levels self.new ≡ Self.levels self.old) }
         ensures only { IfErr result
             (NoRecord Self.step Self.too_few (asks_characters_under general constraints.now) self.old self.new) }
-        ensures call { DecoderCall Self.has_failed self.old self.new result }
+        ensures call { DecoderCall Self.has_failed (SameLevel Self.levels) self.old self.new result }
     {
         self.decode_characters(alloc, tag, constraints)
     }
@@ -156,10 +149,9 @@ pub trait DecodeNamed: Decoder {
     where
         Self: Sized,
         ensures ok { IfOk result (λ x. Self.step self.old (characters_under graphic constraints.now x) self.new) }
-        ensures level { OnOk result (Self.levels self.new ≡ Self.levels self.old) }
         ensures only { IfErr result
             (NoRecord Self.step Self.too_few (asks_characters_under graphic constraints.now) self.old self.new) }
-        ensures call { DecoderCall Self.has_failed self.old self.new result }
+        ensures call { DecoderCall Self.has_failed (SameLevel Self.levels) self.old self.new result }
     {
         self.decode_characters(alloc, tag, constraints)
     }
@@ -174,10 +166,9 @@ pub trait DecodeNamed: Decoder {
     where
         Self: Sized,
         ensures ok { IfOk result (λ x. Self.step self.old (characters_under teletex constraints.now x) self.new) }
-        ensures level { OnOk result (Self.levels self.new ≡ Self.levels self.old) }
         ensures only { IfErr result
             (NoRecord Self.step Self.too_few (asks_characters_under teletex constraints.now) self.old self.new) }
-        ensures call { DecoderCall Self.has_failed self.old self.new result }
+        ensures call { DecoderCall Self.has_failed (SameLevel Self.levels) self.old self.new result }
     {
         self.decode_characters(alloc, tag, constraints)
     }
@@ -192,10 +183,9 @@ pub trait DecodeNamed: Decoder {
     where
         Self: Sized,
         ensures ok { IfOk result (λ x. Self.step self.old (characters_under bmp constraints.now x) self.new) }
-        ensures level { OnOk result (Self.levels self.new ≡ Self.levels self.old) }
         ensures only { IfErr result
             (NoRecord Self.step Self.too_few (asks_characters_under bmp constraints.now) self.old self.new) }
-        ensures call { DecoderCall Self.has_failed self.old self.new result }
+        ensures call { DecoderCall Self.has_failed (SameLevel Self.levels) self.old self.new result }
     {
         self.decode_characters(alloc, tag, constraints)
     }

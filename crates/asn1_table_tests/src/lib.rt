@@ -1,8 +1,10 @@
-//! Tests of tables of types: one of each kind, and one for each flaw.
+//! Tests of tables of types: one of each kind, one for each flaw, and defaults.
 #![tactic(auto)]
 
 #[cfg(test)]
 mod common;
+#[cfg(test)]
+mod defaults;
 #[cfg(test)]
 mod flaws;
 #[cfg(test)]

@@ -17,7 +17,8 @@ raised P Q x (Ok v) h m d = absurd h
 raised P Q x (Err y) h m d = due_more P Q y m (let D : Refusal → Type 0 = λ z. IsDue P z in subst D (sym h) d)
 
 -- the same of what is said of two values, which have another name
-pub raised_of : {A B T : Type 0} (P : A → B → Flaw → Bool) {a b : A} {c d : B} (x : Refusal) (r : Result T Refusal) → a ≡ b → c ≡ d → IsErrAnd r (λ y. y ≡ x) → IsDue (P a c) x → IfErr r (λ y. IsDue (P b d) y)
+pub raised_of : {A B T : Type 0} (P : A → B → Flaw → Bool) {a b : A} {c d : B} (x : Refusal) (r : Result T Refusal) → a ≡ b → c ≡ d →
+    IsErrAnd r (λ y. y ≡ x) → IsDue (P a c) x → IfErr r (λ y. IsDue (P b d) y)
 raised_of P {a = a} {b = b} {c = c} {d = d} x r e h k l =
     let m : (f : Flaw) → P a c f ≡ true → P b d f ≡ true = λ f p. ap (λ z. P z d f) (sym e) ∙ ap (λ z. P a z f) (sym h) ∙ p in
     raised (P a c) (P b d) x r k m l

@@ -1,5 +1,6 @@
 -- Values without parts: of which types of a table they are.
-use Rattle.std.proofs.Common.{◌≡◌, ◌∙◌, refl, sym, ap, ℕ, ℤ, zero, suc, Bool, true, false, not, cond, ◌&&◌, ◌||◌, List, [], ◌∷◌, length, ◌≤◌, get_or, Global, is_some, Option, Some, None, option_map, Vec, arith}
+use Rattle.std.proofs.Common.{◌≡◌, ◌∙◌, refl, sym, ap, ℕ, ℤ, zero, suc, Bool, true, false, not, cond, ◌&&◌, ◌||◌, List}
+use Rattle.std.proofs.Common.{[], ◌∷◌, length, ◌≤◌, get_or, Global, is_some, Option, Some, None, option_map, Vec, arith}
 use Rattle.std.specs.List.{list_all}
 use Rattle.std.proofs.lemmas.Option.{slice_get_past}
 use Rattle.std.proofs.lemmas.Bool.{le-leb}
@@ -54,20 +55,34 @@ any_size z n = ap (λ b. (b && true) && is_size_of z n) (le-leb 0 n (omega arith
 -- unfolded to one level
 at_one : (ns : List TypeNode) (x : TypeNode) (e : Event) → is_of (type_of ns 1 (Some x)) (scalar_of e) ≡ is_scalar x e
 unfolding is_of
-at_one ns node.Boolean e = by_event (λ e. is_of (type_of ns 1 (Some node.Boolean)) (scalar_of e) ≡ is_scalar node.Boolean e) (λ v. refl) refl (λ v. refl) (λ v. refl) (λ v. refl) (λ v. refl) (λ v. refl) e
+at_one ns node.Boolean e = by_event (λ e. is_of (type_of ns 1 (Some node.Boolean)) (scalar_of e) ≡ is_scalar node.Boolean e) (λ v. refl) refl
+    (λ v. refl) (λ v. refl) (λ v. refl) (λ v. refl) (λ v. refl) e
 at_one ns node.Null e = by_event (λ e. is_of (type_of ns 1 (Some node.Null)) (scalar_of e) ≡ is_scalar node.Null e) (λ v. refl) refl (λ v. refl) (λ v. refl) (λ v. refl) (λ v. refl) (λ v. refl) e
-at_one ns (node.Integer l) e = by_event (λ e. is_of (type_of ns 1 (Some (node.Integer l))) (scalar_of e) ≡ is_scalar (node.Integer l) e) (λ v. refl) refl (λ v. refl) (λ v. refl) (λ v. refl) (λ v. refl) (λ v. refl) e
-at_one ns (node.Enumerated t) e = by_event (λ e. is_of (type_of ns 1 (Some (node.Enumerated t))) (scalar_of e) ≡ is_scalar (node.Enumerated t) e) (λ v. refl) refl (λ v. refl) (λ v. ap (λ b. b || (t.is_extensible && is_some (item_index v t.additions.items))) (placed v t.root.items) ∙ ap (λ b. is_in v t.root.items || (t.is_extensible && b)) (placed v t.additions.items)) (λ v. refl) (λ v. refl) (λ v. refl) e
-at_one ns (node.BitString z) e = by_event (λ e. is_of (type_of ns 1 (Some (node.BitString z))) (scalar_of e) ≡ is_scalar (node.BitString z) e) (λ v. refl) refl (λ v. refl) (λ v. refl) (λ v. any_size z (length v)) (λ v. refl) (λ v. refl) e
-at_one ns (node.OctetString z) e = by_event (λ e. is_of (type_of ns 1 (Some (node.OctetString z))) (scalar_of e) ≡ is_scalar (node.OctetString z) e) (λ v. refl) refl (λ v. refl) (λ v. refl) (λ v. refl) (λ v. ap (λ b. list_all is_octet v.items && b) (any_size z (length v.items))) (λ v. refl) e
-at_one ns (node.CharacterString t) e = by_event (λ e. is_of (type_of ns 1 (Some (node.CharacterString t))) (scalar_of e) ≡ is_scalar (node.CharacterString t) e) (λ v. refl) refl (λ v. refl) (λ v. refl) (λ v. refl) (λ v. refl) (λ v. refl) e
-at_one ns node.ObjectIdentifier e = by_event (λ e. is_of (type_of ns 1 (Some node.ObjectIdentifier)) (scalar_of e) ≡ is_scalar node.ObjectIdentifier e) (λ v. refl) refl (λ v. refl) (λ v. refl) (λ v. refl) (λ v. refl) (λ v. refl) e
-at_one ns (node.SequenceOf z i) e = by_event (λ e. is_of (type_of ns 1 (Some (node.SequenceOf z i))) (scalar_of e) ≡ is_scalar (node.SequenceOf z i) e) (λ v. refl) refl (λ v. refl) (λ v. refl) (λ v. refl) (λ v. refl) (λ v. refl) e
-at_one ns (node.SetOf z i) e = by_event (λ e. is_of (type_of ns 1 (Some (node.SetOf z i))) (scalar_of e) ≡ is_scalar (node.SetOf z i) e) (λ v. refl) refl (λ v. refl) (λ v. refl) (λ v. refl) (λ v. refl) (λ v. refl) e
-at_one ns (node.Sequence t) e = by_event (λ e. is_of (type_of ns 1 (Some (node.Sequence t))) (scalar_of e) ≡ is_scalar (node.Sequence t) e) (λ v. refl) refl (λ v. refl) (λ v. refl) (λ v. refl) (λ v. refl) (λ v. refl) e
-at_one ns (node.Set t) e = by_event (λ e. is_of (type_of ns 1 (Some (node.Set t))) (scalar_of e) ≡ is_scalar (node.Set t) e) (λ v. refl) refl (λ v. refl) (λ v. refl) (λ v. refl) (λ v. refl) (λ v. refl) e
-at_one ns (node.Group cs) e = by_event (λ e. is_of (type_of ns 1 (Some (node.Group cs))) (scalar_of e) ≡ is_scalar (node.Group cs) e) (λ v. refl) refl (λ v. refl) (λ v. refl) (λ v. refl) (λ v. refl) (λ v. refl) e
-at_one ns (node.Choice t) e = by_event (λ e. is_of (type_of ns 1 (Some (node.Choice t))) (scalar_of e) ≡ is_scalar (node.Choice t) e) (λ v. refl) refl (λ v. refl) (λ v. refl) (λ v. refl) (λ v. refl) (λ v. refl) e
+at_one ns (node.Integer l) e = by_event (λ e. is_of (type_of ns 1 (Some (node.Integer l))) (scalar_of e) ≡ is_scalar (node.Integer l) e) (λ v. refl)
+    refl (λ v. refl) (λ v. refl) (λ v. refl) (λ v. refl) (λ v. refl) e
+at_one ns (node.Enumerated t) e = by_event (λ e. is_of (type_of ns 1 (Some (node.Enumerated t))) (scalar_of e) ≡ is_scalar (node.Enumerated t) e)
+    (λ v. refl) refl (λ v. refl) (λ v. ap (λ b. b || (t.is_extensible && is_some (item_index v t.additions.items))) (placed v t.root.items) ∙
+    ap (λ b. is_in v t.root.items || (t.is_extensible && b)) (placed v t.additions.items)) (λ v. refl) (λ v. refl) (λ v. refl) e
+at_one ns (node.BitString z) e = by_event (λ e. is_of (type_of ns 1 (Some (node.BitString z))) (scalar_of e) ≡ is_scalar (node.BitString z) e)
+    (λ v. refl) refl (λ v. refl) (λ v. refl) (λ v. any_size z (length v)) (λ v. refl) (λ v. refl) e
+at_one ns (node.OctetString z) e = by_event (λ e. is_of (type_of ns 1 (Some (node.OctetString z))) (scalar_of e) ≡ is_scalar (node.OctetString z) e)
+    (λ v. refl) refl (λ v. refl) (λ v. refl) (λ v. refl) (λ v. ap (λ b. list_all is_octet v.items && b) (any_size z (length v.items))) (λ v. refl) e
+at_one ns (node.CharacterString t) e = by_event (λ e. is_of (type_of ns 1 (Some (node.CharacterString t))) (scalar_of e)
+    ≡ is_scalar (node.CharacterString t) e) (λ v. refl) refl (λ v. refl) (λ v. refl) (λ v. refl) (λ v. refl) (λ v. refl) e
+at_one ns node.ObjectIdentifier e = by_event (λ e. is_of (type_of ns 1 (Some node.ObjectIdentifier)) (scalar_of e)
+    ≡ is_scalar node.ObjectIdentifier e) (λ v. refl) refl (λ v. refl) (λ v. refl) (λ v. refl) (λ v. refl) (λ v. refl) e
+at_one ns (node.SequenceOf z i) e = by_event (λ e. is_of (type_of ns 1 (Some (node.SequenceOf z i))) (scalar_of e)
+    ≡ is_scalar (node.SequenceOf z i) e) (λ v. refl) refl (λ v. refl) (λ v. refl) (λ v. refl) (λ v. refl) (λ v. refl) e
+at_one ns (node.SetOf z i) e = by_event (λ e. is_of (type_of ns 1 (Some (node.SetOf z i))) (scalar_of e) ≡ is_scalar (node.SetOf z i) e) (λ v. refl)
+    refl (λ v. refl) (λ v. refl) (λ v. refl) (λ v. refl) (λ v. refl) e
+at_one ns (node.Sequence t) e = by_event (λ e. is_of (type_of ns 1 (Some (node.Sequence t))) (scalar_of e) ≡ is_scalar (node.Sequence t) e)
+    (λ v. refl) refl (λ v. refl) (λ v. refl) (λ v. refl) (λ v. refl) (λ v. refl) e
+at_one ns (node.Set t) e = by_event (λ e. is_of (type_of ns 1 (Some (node.Set t))) (scalar_of e) ≡ is_scalar (node.Set t) e) (λ v. refl) refl
+    (λ v. refl) (λ v. refl) (λ v. refl) (λ v. refl) (λ v. refl) e
+at_one ns (node.Group cs) e = by_event (λ e. is_of (type_of ns 1 (Some (node.Group cs))) (scalar_of e) ≡ is_scalar (node.Group cs) e) (λ v. refl) refl
+    (λ v. refl) (λ v. refl) (λ v. refl) (λ v. refl) (λ v. refl) e
+at_one ns (node.Choice t) e = by_event (λ e. is_of (type_of ns 1 (Some (node.Choice t))) (scalar_of e) ≡ is_scalar (node.Choice t) e) (λ v. refl) refl
+    (λ v. refl) (λ v. refl) (λ v. refl) (λ v. refl) (λ v. refl) e
 
 -- a scalar of a node is one at any number of levels
 at_any : (ns : List TypeNode) (n : ℕ) (x : TypeNode) (e : Event) → true ≡ is_scalar x e → is_of (type_of ns n (Some x)) (scalar_of e) ≡ is_of (type_of ns 1 (Some x)) (scalar_of e)

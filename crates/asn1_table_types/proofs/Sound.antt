@@ -1,11 +1,15 @@
 -- Types that meet the conditions of lawful ones, unfolded to two levels, are lawful however deep they are unfolded.
-use Rattle.std.proofs.Common.{◌≡◌, ◌∙◌, refl, sym, ap, ℕ, zero, suc, Bool, true, false, not, ◌&&◌, ◌||◌, List, [], ◌∷◌, ◌++◌, map, length, ◌<◌, ◌≤◌, ◌⊎◌, inl, inr, arith, Option, Some, None, slice_get}
+use Rattle.std.proofs.Common.{◌≡◌, ◌∙◌, refl, sym, ap, ℕ, zero, suc, Bool, true, false, not, ◌&&◌, ◌||◌, List, [], ◌∷◌}
+use Rattle.std.proofs.Common.{◌++◌, map, length, ◌<◌, ◌≤◌, ◌⊎◌, inl, inr, arith, Option, Some, None, slice_get}
 use Rattle.std.proofs.lemmas.Bool.{and_parts, and_from, cases_lt}
 use Rattle.std.proofs.lemmas.Option.{slice_get_past}
 use lib.Pointwise.{pointwise}
 use Rattle.asn1_model.specs.Schema.{Tag, Size, Counts, Schema, cut, sequence_of, set_of, sequence, set, choice, Components, Alternatives}
 use Rattle.asn1_model.specs.Schema as model
-use Rattle.asn1_model.specs.Lawful.{is_lawful, are_lawful, are_counts, is_group, is_optional, are_tags, are_tags_of, begins_with, has_typed_default, are_groups_in_place, are_no_components, are_distinct, are_ascending, tag_same, tag_less, component_tags, component_places, alternative_tags, are_lawful_alternatives}
+use Rattle.asn1_model.specs.Lawful.{is_lawful, are_lawful, are_counts, is_group, is_optional, are_tags, are_tags_of}
+use Rattle.asn1_model.specs.Lawful.{begins_with, has_typed_default, are_groups_in_place, are_no_components}
+use Rattle.asn1_model.specs.Lawful.{are_distinct, are_ascending, tag_same, tag_less, component_tags, component_places}
+use Rattle.asn1_model.specs.Lawful.{alternative_tags, are_lawful_alternatives}
 use Rattle.asn1_schema_constraints.specs.Terms.{size_of}
 use Rattle.asn1_schema_tags.specs.Tags.{tag_of}
 use Rattle.asn1_table_types.specs.declared.nodes.TypeNode.{TypeNode}
@@ -13,7 +17,9 @@ use Rattle.asn1_table_types.specs.declared.nodes.TypeNode.TheVariants as node
 use Rattle.asn1_table_types.specs.declared.nodes.Component.{Component}
 use Rattle.asn1_table_types.specs.declared.nodes.Alternative.{Alternative}
 use Rattle.asn1_table_types.specs.Meaning.{type_of, type_at, components_of, alternatives_of, presence_of}
-use Rattle.asn1_table_types.specs.Flaws.{is_in_place, is_component, are_components, are_together, is_table, is_set_table, is_group_table, are_alternatives, are_choice_tags, is_choice_table, is_sound, have_defaults, has_defaults}
+use Rattle.asn1_table_types.specs.Flaws.{is_in_place, is_component, are_components, are_together, is_table}
+use Rattle.asn1_table_types.specs.Flaws.{is_set_table, is_group_table, are_alternatives, are_choice_tags}
+use Rattle.asn1_table_types.specs.Flaws.{is_choice_table, is_sound, have_defaults, has_defaults}
 use Rattle.asn1_table_types.specs.Tables.{AreLawful}
 use Rattle.asn1_table_types.proofs.TagLaws.{tags_are, none_are, places_are, among_are, class_is_one}
 
@@ -53,7 +59,8 @@ set_begins cs ds x xs ys [] e = e
 set_begins cs ds x xs ys (u ∷ []) e = refl
 set_begins cs ds x xs ys (u ∷ v ∷ vs) e = e
 
-among_same : (f g : ℕ → Schema) (xs ys : List Alternative) → alternative_tags (alternatives_of f xs) ++ alternative_tags (alternatives_of f ys) ≡ alternative_tags (alternatives_of g xs) ++ alternative_tags (alternatives_of g ys)
+among_same : (f g : ℕ → Schema) (xs ys : List Alternative) → alternative_tags (alternatives_of f xs) ++ alternative_tags (alternatives_of f ys)
+    ≡ alternative_tags (alternatives_of g xs) ++ alternative_tags (alternatives_of g ys)
 among_same f g xs ys =
     ap (λ ts. ts ++ alternative_tags (alternatives_of f ys)) (among_are f xs ∙ sym (among_are g xs))
     ∙ ap (λ ts. alternative_tags (alternatives_of g xs) ++ ts) (among_are f ys ∙ sym (among_are g ys))
@@ -132,7 +139,8 @@ module _ (f g : ℕ → Schema) (v : (i : ℕ) → Serves (g i) (f i)) where
   tagged : (ts : List Tag) (i : ℕ) → are_tags_of ts (f i) ≡ true → are_tags_of ts (g i) ≡ true
   tagged ts i e = let a = and_parts (are_tags ts) (begins_with ts (f i)) e in and_from _ _ a.0 ((v i).begins ts a.1)
 
-  parts_lawful : (added : Bool) (cs : List Component) → ((i : ℕ) → is_lawful (g i) ≡ true) → have_defaults (components_of g cs) ≡ true → are_components added (components_of f cs) ≡ true → are_lawful (components_of g cs) ≡ true
+  parts_lawful : (added : Bool) (cs : List Component) → ((i : ℕ) → is_lawful (g i) ≡ true) → have_defaults (components_of g cs) ≡ true →
+      are_components added (components_of f cs) ≡ true → are_lawful (components_of g cs) ≡ true
   unfolding are_lawful
   parts_lawful added [] h k e = refl
   parts_lawful added (c ∷ cs) h k e =
@@ -146,7 +154,8 @@ module _ (f g : ℕ → Schema) (v : (i : ℕ) → Serves (g i) (f i)) where
       let p = component_parts added c cs e in
       and_from _ _ (in_place added (presence_of c.presence) (v c.place) p.1) (groups_placed added cs p.2)
 
-  together : (cs : List Component) (e : Bool) (adds : List Component) → are_together (components_of f cs) e (components_of f adds) ≡ true → are_together (components_of g cs) e (components_of g adds) ≡ true
+  together : (cs : List Component) (e : Bool) (adds : List Component) → are_together (components_of f cs) e (components_of f adds) ≡ true →
+      are_together (components_of g cs) e (components_of g adds) ≡ true
   together cs e adds h =
       let a : are_no_components (components_of g adds) ≡ are_no_components (components_of f adds) = none_are g adds ∙ sym (none_are f adds) in
       let b : component_tags (components_of g cs) ≡ component_tags (components_of f cs) = tags_are g cs ∙ sym (tags_are f cs) in
@@ -156,15 +165,20 @@ module _ (f g : ℕ → Schema) (v : (i : ℕ) → Serves (g i) (f i)) where
       ∙ ap (λ xs. (e || are_no_components (components_of f adds)) && are_distinct tag_same (component_tags (components_of f cs) ++ xs)) d
       ∙ h
 
-  sequence_lawful : (cs : List Component) (e : Bool) (adds : List Component) → ((i : ℕ) → is_lawful (g i) ≡ true) → (have_defaults (components_of g cs) && have_defaults (components_of g adds)) ≡ true → is_table (components_of f cs) e (components_of f adds) ≡ true → is_lawful (sequence (components_of g cs) e (components_of g adds)) ≡ true
+  sequence_lawful : (cs : List Component) (e : Bool) (adds : List Component) → ((i : ℕ) → is_lawful (g i) ≡ true) →
+      (have_defaults (components_of g cs) && have_defaults (components_of g adds)) ≡ true → is_table (components_of f cs) e (components_of f adds)
+      ≡ true → is_lawful (sequence (components_of g cs) e (components_of g adds)) ≡ true
   unfolding is_lawful
   sequence_lawful cs e adds h d k =
       let w = and_parts (have_defaults (components_of g cs)) (have_defaults (components_of g adds)) d in
       let a = and_parts (are_together (components_of f cs) e (components_of f adds)) (are_components false (components_of f cs) && are_components true (components_of f adds)) k in
       let b = and_parts (are_components false (components_of f cs)) (are_components true (components_of f adds)) a.1 in
-      and_from _ _ (and_from _ _ (and_from _ _ (and_from _ _ (together cs e adds a.0) (groups_placed false cs b.0)) (groups_placed true adds b.1)) (parts_lawful false cs h w.0 b.0)) (parts_lawful true adds h w.1 b.1)
+      and_from _ _ (and_from _ _ (and_from _ _ (and_from _ _ (together cs e adds a.0) (groups_placed false cs b.0)) (groups_placed true adds b.1))
+      (parts_lawful false cs h w.0 b.0)) (parts_lawful true adds h w.1 b.1)
 
-  set_lawful : (cs : List Component) (e : Bool) (adds : List Component) → ((i : ℕ) → is_lawful (g i) ≡ true) → (have_defaults (components_of g cs) && have_defaults (components_of g adds)) ≡ true → is_set_table (components_of f cs) e (components_of f adds) ≡ true → is_lawful (set (components_of g cs) e (components_of g adds)) ≡ true
+  set_lawful : (cs : List Component) (e : Bool) (adds : List Component) → ((i : ℕ) → is_lawful (g i) ≡ true) →
+      (have_defaults (components_of g cs) && have_defaults (components_of g adds)) ≡ true → is_set_table (components_of f cs) e (components_of f adds)
+      ≡ true → is_lawful (set (components_of g cs) e (components_of g adds)) ≡ true
   unfolding is_lawful
   set_lawful cs e adds h d k =
       let w = and_parts (have_defaults (components_of g cs)) (have_defaults (components_of g adds)) d in
@@ -172,9 +186,12 @@ module _ (f g : ℕ → Schema) (v : (i : ℕ) → Serves (g i) (f i)) where
       let a = and_parts (are_together (components_of f cs) e (components_of f adds)) (are_components false (components_of f cs) && are_components true (components_of f adds)) o.0 in
       let b = and_parts (are_components false (components_of f cs)) (are_components true (components_of f adds)) a.1 in
       let p : are_ascending tag_less (component_places (components_of g cs)) ≡ true = ap (λ ts. are_ascending tag_less ts) (places_are g cs ∙ sym (places_are f cs)) ∙ o.1 in
-      and_from _ _ (and_from _ _ (and_from _ _ (and_from _ _ (and_from _ _ (together cs e adds a.0) (groups_placed false cs b.0)) (groups_placed true adds b.1)) p) (parts_lawful false cs h w.0 b.0)) (parts_lawful true adds h w.1 b.1)
+      and_from _ _ (and_from _ _
+      (and_from _ _ (and_from _ _ (and_from _ _ (together cs e adds a.0) (groups_placed false cs b.0)) (groups_placed true adds b.1)) p)
+      (parts_lawful false cs h w.0 b.0)) (parts_lawful true adds h w.1 b.1)
 
-  group_lawful : (cs : List Component) → ((i : ℕ) → is_lawful (g i) ≡ true) → have_defaults (components_of g cs) ≡ true → is_group_table (components_of f cs) ≡ true → is_lawful (model.group (components_of g cs)) ≡ true
+  group_lawful : (cs : List Component) → ((i : ℕ) → is_lawful (g i) ≡ true) → have_defaults (components_of g cs) ≡ true →
+      is_group_table (components_of f cs) ≡ true → is_lawful (model.group (components_of g cs)) ≡ true
   unfolding is_lawful
   group_lawful cs h d k =
       let a = and_parts (not (are_no_components (components_of f cs)) && are_distinct tag_same (component_tags (components_of f cs))) (are_components false (components_of f cs)) k in
@@ -190,10 +207,12 @@ module _ (f g : ℕ → Schema) (v : (i : ℕ) → Serves (g i) (f i)) where
       let a = and_parts (not (is_group (f x.place))) (are_alternatives (alternatives_of f xs)) e in
       and_from _ _ (and_from _ _ (and_from _ _ (class_is_one x.tag.class x.tag.value) ((v x.place).group a.0)) (h x.place)) (others_lawful xs h a.1)
 
-  choice_lawful : (xs : List Alternative) (e : Bool) (ys : List Alternative) → ((i : ℕ) → is_lawful (g i) ≡ true) → is_choice_table (alternatives_of f xs) e (alternatives_of f ys) ≡ true → is_lawful (choice (alternatives_of g xs) e (alternatives_of g ys)) ≡ true
+  choice_lawful : (xs : List Alternative) (e : Bool) (ys : List Alternative) → ((i : ℕ) → is_lawful (g i) ≡ true) →
+      is_choice_table (alternatives_of f xs) e (alternatives_of f ys) ≡ true → is_lawful (choice (alternatives_of g xs) e (alternatives_of g ys)) ≡ true
   unfolding is_lawful
   choice_lawful xs e ys h k =
-      let a = and_parts (are_choice_tags (alternative_tags (alternatives_of f xs)) e (alternative_tags (alternatives_of f ys))) (are_alternatives (alternatives_of f xs) && are_alternatives (alternatives_of f ys)) k in
+      let a = and_parts (are_choice_tags (alternative_tags (alternatives_of f xs)) e (alternative_tags (alternatives_of f ys)))
+      (are_alternatives (alternatives_of f xs) && are_alternatives (alternatives_of f ys)) k in
       let b = and_parts (are_alternatives (alternatives_of f xs)) (are_alternatives (alternatives_of f ys)) a.1 in
       let p : are_choice_tags (alternative_tags (alternatives_of g xs)) e (alternative_tags (alternatives_of g ys)) ≡ true =
       ap (λ ts. are_choice_tags ts e (alternative_tags (alternatives_of g ys))) (among_are g xs ∙ sym (among_are f xs))

@@ -5,7 +5,9 @@ use Rattle.std.specs.List.{list_all}
 use lib.Pointwise.{pointwise}
 use Rattle.asn1_model.specs.Schema.{Schema, Components, group, choice}
 use Rattle.asn1_model.specs.Schema as model
-use Rattle.asn1_model.specs.Lawful.{component_tags, are_no_components, is_tag, is_empty, are_tags, begins_with, are_distinct, are_ascending, tag_same, tag_less, component_places, alternative_tags, smallest}
+use Rattle.asn1_model.specs.Lawful.{component_tags, are_no_components, is_tag, is_empty, are_tags, begins_with}
+use Rattle.asn1_model.specs.Lawful.{are_distinct, are_ascending, tag_same, tag_less, component_places, alternative_tags}
+use Rattle.asn1_model.specs.Lawful.{smallest}
 use Rattle.asn1_schema_tags.specs.Tags.{tag_of, class_number}
 use Rattle.asn1_schema_tags.specs.declared.tags.Class.{Class}
 use Rattle.asn1_schema_tags.specs.declared.tags.Class.TheVariants.{Universal, Application, Context, Private}
@@ -17,7 +19,9 @@ use Rattle.asn1_table_types.specs.declared.nodes.Presence.{Presence}
 use Rattle.asn1_table_types.specs.declared.nodes.TypeNode.{TypeNode}
 use Rattle.asn1_table_types.specs.declared.nodes.TypeNode.TheVariants as node
 use Rattle.asn1_table_types.proofs.Lists.{empty_length}
-use Rattle.asn1_table_types.specs.Flaws.{is_in_place, is_component, are_components, is_table, table_lacks, order_lacks, is_set_table, group_lacks, is_group_table, choice_lacks, is_choice_table, are_alternatives}
+use Rattle.asn1_table_types.specs.Flaws.{is_in_place, is_component, are_components, is_table, table_lacks, order_lacks}
+use Rattle.asn1_table_types.specs.Flaws.{is_set_table, group_lacks, is_group_table, choice_lacks, is_choice_table}
+use Rattle.asn1_table_types.specs.Flaws.{are_alternatives}
 use Rattle.asn1_table_types.specs.Meaning.{components_of, tags_in, places_in, least_of, presence_of, alternatives_of, tags_among, is_plain, type_of}
 
 -- the tags of components are those that they are given
@@ -45,7 +49,8 @@ none_are f (c ∷ cs) = refl
 pub marked : (f : ℕ → Schema) (cs : Components) (e : Bool) (adds : List Component) → (e || are_no_components (components_of f adds)) ≡ (e || is_empty adds)
 marked f cs e adds = ap (λ x. e || x) (none_are f adds)
 
-pub tags_together : (f : ℕ → Schema) (cs adds : List Component) → are_distinct tag_same (component_tags (components_of f cs) ++ component_tags (components_of f adds)) ≡ are_distinct tag_same (tags_in cs ++ tags_in adds)
+pub tags_together : (f : ℕ → Schema) (cs adds : List Component) →
+    are_distinct tag_same (component_tags (components_of f cs) ++ component_tags (components_of f adds)) ≡ are_distinct tag_same (tags_in cs ++ tags_in adds)
 tags_together f cs adds =
     ap (λ xs. are_distinct tag_same (xs ++ component_tags (components_of f adds))) (tags_are f cs)
     ∙ ap (λ xs. are_distinct tag_same (tags_in cs ++ xs)) (tags_are f adds)
@@ -57,11 +62,13 @@ alike : {a b c : Bool} → a ≡ b → a ≡ true → c ≡ b → c ≡ true
 alike p q r = r ∙ sym p ∙ q
 
 -- what a table lacks that has additions and no extension marker
-pub unmarked_lacks : (f : ℕ → Schema) (cs : List Component) (e : Bool) (adds : List Component) {a : Bool} → a ≡ (e || is_empty adds) → a ≡ false → table_lacks MarkerMissing (components_of f cs) e (components_of f adds) ≡ true
+pub unmarked_lacks : (f : ℕ → Schema) (cs : List Component) (e : Bool) (adds : List Component) {a : Bool} → a ≡ (e || is_empty adds) → a ≡ false →
+    table_lacks MarkerMissing (components_of f cs) e (components_of f adds) ≡ true
 unmarked_lacks f cs e adds p q = or_left _ _ (unlike p q (marked f (components_of f cs) e adds))
 
 -- what a table lacks in which a tag occurs twice
-pub twice_lacks : (f : ℕ → Schema) (cs : List Component) (e : Bool) (adds : List Component) {a : Bool} → a ≡ are_distinct tag_same (tags_in cs ++ tags_in adds) → a ≡ false → table_lacks TagTwice (components_of f cs) e (components_of f adds) ≡ true
+pub twice_lacks : (f : ℕ → Schema) (cs : List Component) (e : Bool) (adds : List Component) {a : Bool} →
+    a ≡ are_distinct tag_same (tags_in cs ++ tags_in adds) → a ≡ false → table_lacks TagTwice (components_of f cs) e (components_of f adds) ≡ true
 twice_lacks f cs e adds p q = or_left _ _ (unlike p q (tags_together f cs adds))
 
 -- a table in which neither is so, and each component is one of a lawful type
@@ -89,7 +96,8 @@ distinct_of {xs = xs} {ys = ys} {cs = cs} {adds = adds} e h b = b ∙ ap (λ zs.
 
 -- ---- the order of a SET
 
-place_before : (ts : List model.Tag) (o : model.Presence) (s : Schema) (cs : Components) (us : List model.Tag) → component_places cs ≡ us → component_places (model.component ts o s cs) ≡ least_of ts ++ us
+place_before : (ts : List model.Tag) (o : model.Presence) (s : Schema) (cs : Components) (us : List model.Tag) → component_places cs ≡ us →
+    component_places (model.component ts o s cs) ≡ least_of ts ++ us
 place_before [] o s cs us e = e
 place_before (t ∷ ts) o s cs us e = ap (λ vs. smallest t ts ∷ vs) e
 
@@ -134,21 +142,26 @@ pub none_among : (f : ℕ → Schema) (xs : List Alternative) → is_empty (alte
 none_among f [] = refl
 none_among f (a ∷ xs) = refl
 
-pub choice_bare_lacks : (f : ℕ → Schema) (xs : List Alternative) (e : Bool) (ys : List Alternative) → is_empty xs ≡ true → choice_lacks AlternativeMissing (alternatives_of f xs) e (alternatives_of f ys) ≡ true
+pub choice_bare_lacks : (f : ℕ → Schema) (xs : List Alternative) (e : Bool) (ys : List Alternative) → is_empty xs ≡ true →
+    choice_lacks AlternativeMissing (alternatives_of f xs) e (alternatives_of f ys) ≡ true
 choice_bare_lacks f xs e ys h = or_left _ _ (none_among f xs ∙ h)
 
-pub choice_unmarked_lacks : (f : ℕ → Schema) (xs : List Alternative) (e : Bool) (ys : List Alternative) {a : Bool} → a ≡ (e || is_empty ys) → a ≡ false → choice_lacks MarkerMissing (alternatives_of f xs) e (alternatives_of f ys) ≡ true
+pub choice_unmarked_lacks : (f : ℕ → Schema) (xs : List Alternative) (e : Bool) (ys : List Alternative) {a : Bool} → a ≡ (e || is_empty ys) →
+    a ≡ false → choice_lacks MarkerMissing (alternatives_of f xs) e (alternatives_of f ys) ≡ true
 choice_unmarked_lacks f xs e ys p q = or_left _ _ (unlike p q (ap (λ x. e || x) (none_among f ys)))
 
-pub choice_order_lacks : (f : ℕ → Schema) (xs : List Alternative) (e : Bool) (ys : List Alternative) {a : Bool} → a ≡ are_ascending tag_less (tags_among xs) → a ≡ false → choice_lacks TagsOutOfOrder (alternatives_of f xs) e (alternatives_of f ys) ≡ true
+pub choice_order_lacks : (f : ℕ → Schema) (xs : List Alternative) (e : Bool) (ys : List Alternative) {a : Bool} →
+    a ≡ are_ascending tag_less (tags_among xs) → a ≡ false → choice_lacks TagsOutOfOrder (alternatives_of f xs) e (alternatives_of f ys) ≡ true
 choice_order_lacks f xs e ys p q = or_left _ _ (unlike p q (ap (λ ts. are_ascending tag_less ts) (among_are f xs)))
 
-both_among : (f : ℕ → Schema) (xs ys : List Alternative) → are_distinct tag_same (alternative_tags (alternatives_of f xs) ++ alternative_tags (alternatives_of f ys)) ≡ are_distinct tag_same (tags_among xs ++ tags_among ys)
+both_among : (f : ℕ → Schema) (xs ys : List Alternative) → are_distinct tag_same
+    (alternative_tags (alternatives_of f xs) ++ alternative_tags (alternatives_of f ys)) ≡ are_distinct tag_same (tags_among xs ++ tags_among ys)
 both_among f xs ys =
     ap (λ ts. are_distinct tag_same (ts ++ alternative_tags (alternatives_of f ys))) (among_are f xs)
     ∙ ap (λ ts. are_distinct tag_same (tags_among xs ++ ts)) (among_are f ys)
 
-pub choice_twice_lacks : (f : ℕ → Schema) (xs : List Alternative) (e : Bool) (ys : List Alternative) {a : Bool} → a ≡ are_distinct tag_same (tags_among xs ++ tags_among ys) → a ≡ false → choice_lacks TagTwice (alternatives_of f xs) e (alternatives_of f ys) ≡ true
+pub choice_twice_lacks : (f : ℕ → Schema) (xs : List Alternative) (e : Bool) (ys : List Alternative) {a : Bool} →
+    a ≡ are_distinct tag_same (tags_among xs ++ tags_among ys) → a ≡ false → choice_lacks TagTwice (alternatives_of f xs) e (alternatives_of f ys) ≡ true
 choice_twice_lacks f xs e ys p q = or_left _ _ (unlike p q (both_among f xs ys))
 
 pub choice_is : (f : ℕ → Schema) (xs : List Alternative) (e : Bool) (ys : List Alternative) {a b c : Bool} → is_empty xs ≡ false → a ≡ (e || is_empty ys) → a ≡ true
@@ -156,7 +169,8 @@ pub choice_is : (f : ℕ → Schema) (xs : List Alternative) (e : Bool) (ys : Li
     → (are_alternatives (alternatives_of f xs) && are_alternatives (alternatives_of f ys)) ≡ true → is_choice_table (alternatives_of f xs) e (alternatives_of f ys) ≡ true
 choice_is f xs e ys h p q r s t u v =
     and_from _ _
-    (and_from _ _ (and_from _ _ (and_from _ _ (ap not (none_among f xs ∙ h)) (alike p q (ap (λ x. e || x) (none_among f ys)))) (alike r s (ap (λ ts. are_ascending tag_less ts) (among_are f xs)))) (alike t u (both_among f xs ys)))
+    (and_from _ _ (and_from _ _ (and_from _ _ (ap not (none_among f xs ∙ h)) (alike p q (ap (λ x. e || x) (none_among f ys))))
+    (alike r s (ap (λ ts. are_ascending tag_less ts) (among_are f xs)))) (alike t u (both_among f xs ys)))
     v
 
 -- ---- what types begin with

@@ -2,9 +2,15 @@
 use Rattle.std.proofs.Common.{◌≡◌, ◌∙◌, refl, sym, ap, ℕ, ℤ, int_lt, ◌<◌, length, get_or, Some, slice_get, Bool, true, false, not, ◌&&◌, ◌||◌, List, ◌++◌}
 use Rattle.std.proofs.lemmas.Bool.{and_parts, and_from, both_ways, or_left, or_right}
 use Rattle.asn1_model.specs.Value.{same_number}
-use Rattle.asn1_model.specs.Schema.{Tag, Range, Counts, Alternatives, no_alternative, alternative, Schema, cut, boolean, null, integer, enumerated, bit_string, octet_string, character_string, object_identifier, sequence_of, set_of, sequence, set, group, choice, Components, no_component, component}
+use Rattle.asn1_model.specs.Schema.{Tag, Range, Counts, Alternatives, no_alternative, alternative, Schema, cut, boolean}
+use Rattle.asn1_model.specs.Schema.{null, integer, enumerated, bit_string, octet_string, character_string}
+use Rattle.asn1_model.specs.Schema.{object_identifier, sequence_of, set_of, sequence, set, group, choice, Components}
+use Rattle.asn1_model.specs.Schema.{no_component, component}
 use Rattle.asn1_model.specs.Schema as model
-use Rattle.asn1_model.specs.Lawful.{is_lawful, are_lawful, is_range, are_counts, is_group, is_empty, is_tag, are_tags, are_tags_of, begins_with, has_typed_default, are_groups_in_place, is_sequence_table, are_no_components, are_distinct, tag_same, component_tags, are_ascending, tag_less, component_places, alternative_tags, are_lawful_alternatives}
+use Rattle.asn1_model.specs.Lawful.{is_lawful, are_lawful, is_range, are_counts, is_group, is_empty, is_tag, are_tags}
+use Rattle.asn1_model.specs.Lawful.{are_tags_of, begins_with, has_typed_default, are_groups_in_place, is_sequence_table}
+use Rattle.asn1_model.specs.Lawful.{are_no_components, are_distinct, tag_same, component_tags, are_ascending, tag_less}
+use Rattle.asn1_model.specs.Lawful.{component_places, alternative_tags, are_lawful_alternatives}
 use Rattle.std.specs.List.{list_all}
 use Rattle.std.proofs.lemmas.Option.{slice_get_within, slice_get_read}
 use Rattle.asn1_table_types.specs.declared.nodes.TypeNode.{TypeNode}
@@ -13,8 +19,15 @@ use Rattle.asn1_table_types.specs.declared.faults.Refusal.{Refusal}
 use Rattle.asn1_table_types.specs.declared.faults.Refusal.TheVariants.{Flawed, NoMemory}
 use Rattle.asn1_table_types.specs.Tables.{IsUnlawful, IsRefused, IsDueAt, error_of}
 use Rattle.asn1_table_types.specs.declared.faults.Flaw.{Flaw}
-use Rattle.asn1_table_types.specs.declared.faults.Flaw.TheVariants.{BoundsOutOfOrder, SizesOutOfOrder, MarkerMissing, TagTwice, TagMissing, TagsOfOtherType, GroupOutOfPlace, ItemMissing, ItemsOutOfOrder, ItemTwice, ComponentMissing, AlternativeMissing, TagsOutOfOrder, DefaultOfOtherType}
-use Rattle.asn1_table_types.specs.Flaws.{is_in_place, component_lacks, some_lacks, together_lack, table_lacks, bounds_lack, sizes_lack, members_lack, items_lack, order_lacks, group_itself_lacks, choice_tags_lack, alternatives_lack, are_items, are_alternatives, lacks, have_defaults, has_defaults}
+use Rattle.asn1_table_types.specs.declared.faults.Flaw.TheVariants.{BoundsOutOfOrder, SizesOutOfOrder, MarkerMissing}
+use Rattle.asn1_table_types.specs.declared.faults.Flaw.TheVariants.{TagTwice, TagMissing, TagsOfOtherType}
+use Rattle.asn1_table_types.specs.declared.faults.Flaw.TheVariants.{GroupOutOfPlace, ItemMissing, ItemsOutOfOrder}
+use Rattle.asn1_table_types.specs.declared.faults.Flaw.TheVariants.{ItemTwice, ComponentMissing, AlternativeMissing}
+use Rattle.asn1_table_types.specs.declared.faults.Flaw.TheVariants.{TagsOutOfOrder, DefaultOfOtherType}
+use Rattle.asn1_table_types.specs.Flaws.{is_in_place, component_lacks, some_lacks, together_lack, table_lacks}
+use Rattle.asn1_table_types.specs.Flaws.{bounds_lack, sizes_lack, members_lack, items_lack, order_lacks}
+use Rattle.asn1_table_types.specs.Flaws.{group_itself_lacks, choice_tags_lack, alternatives_lack, are_items}
+use Rattle.asn1_table_types.specs.Flaws.{are_alternatives, lacks, have_defaults, has_defaults}
 
 not_false : (b : Bool) → b ≡ true → not b ≡ false
 not_false b e = ap not e
@@ -38,7 +51,8 @@ members_meet : (f : Flaw) (s : Schema) → not (is_group s) ≡ true → members
 members_meet GroupOutOfPlace s e = negated _ e
 members_meet f s e = refl
 
-component_meets : (f : Flaw) (added : Bool) (ts : List Tag) (o : model.Presence) (s : Schema) → are_tags_of ts s ≡ true → has_typed_default s o ≡ true → is_in_place added o s ≡ true → component_lacks f added ts o s ≡ false
+component_meets : (f : Flaw) (added : Bool) (ts : List Tag) (o : model.Presence) (s : Schema) → are_tags_of ts s ≡ true →
+    has_typed_default s o ≡ true → is_in_place added o s ≡ true → component_lacks f added ts o s ≡ false
 component_meets TagMissing added ts o s e d p = negated _ (and_parts (not (is_empty ts)) (list_all is_tag ts) (and_parts (are_tags ts) (begins_with ts s) e).0).0
 component_meets TagsOfOtherType added ts o s e d p = not_false _ (and_parts (are_tags ts) (begins_with ts s) e).1
 component_meets GroupOutOfPlace added ts o s e d p = not_false _ p
@@ -55,7 +69,8 @@ some_meet f added (component ts o s cs) e p =
     let q = and_parts (is_in_place added o s) (are_groups_in_place added cs) p in
     neither _ _ (component_meets f added ts o s c.0 c.1 q.0) (some_meet f added cs a.1 q.1)
 
-together_meet : (f : Flaw) (cs : Components) (e : Bool) (adds : Components) → (e || are_no_components adds) ≡ true → are_distinct tag_same (component_tags cs ++ component_tags adds) ≡ true → together_lack f cs e adds ≡ false
+together_meet : (f : Flaw) (cs : Components) (e : Bool) (adds : Components) → (e || are_no_components adds) ≡ true →
+    are_distinct tag_same (component_tags cs ++ component_tags adds) ≡ true → together_lack f cs e adds ≡ false
 together_meet MarkerMissing cs e adds h k = not_false _ h
 together_meet TagTwice cs e adds h k = not_false _ k
 together_meet f cs e adds h k = refl
@@ -75,7 +90,8 @@ items_meet f roots e adds h =
     let d = and_parts (not (is_empty roots)) (e || is_empty adds) c.0 in
     go f d.0 d.1 c.1 b.1 a.1
   where
-    go : (f : Flaw) → not (is_empty roots) ≡ true → (e || is_empty adds) ≡ true → are_ascending int_lt roots ≡ true → are_ascending int_lt adds ≡ true → are_distinct same_number (roots ++ adds) ≡ true → items_lack f roots e adds ≡ false
+    go : (f : Flaw) → not (is_empty roots) ≡ true → (e || is_empty adds) ≡ true → are_ascending int_lt roots ≡ true →
+        are_ascending int_lt adds ≡ true → are_distinct same_number (roots ++ adds) ≡ true → items_lack f roots e adds ≡ false
     go ItemMissing a b c d k = negated _ a
     go MarkerMissing a b c d k = not_false _ b
     go ItemsOutOfOrder a b c d k = neither _ _ (not_false _ c) (not_false _ d)
@@ -91,7 +107,8 @@ group_itself_meets ComponentMissing cs e h = negated _ e
 group_itself_meets TagTwice cs e h = not_false _ h
 group_itself_meets f cs e h = refl
 
-choice_tags_meet : (f : Flaw) (roots : List Tag) (e : Bool) (adds : List Tag) → not (is_empty roots) ≡ true → (e || is_empty adds) ≡ true → are_ascending tag_less roots ≡ true → are_distinct tag_same (roots ++ adds) ≡ true → choice_tags_lack f roots e adds ≡ false
+choice_tags_meet : (f : Flaw) (roots : List Tag) (e : Bool) (adds : List Tag) → not (is_empty roots) ≡ true → (e || is_empty adds) ≡ true →
+    are_ascending tag_less roots ≡ true → are_distinct tag_same (roots ++ adds) ≡ true → choice_tags_lack f roots e adds ≡ false
 choice_tags_meet AlternativeMissing roots e adds a b c d = negated _ a
 choice_tags_meet MarkerMissing roots e adds a b c d = not_false _ b
 choice_tags_meet TagsOutOfOrder roots e adds a b c d = not_false _ c
@@ -174,7 +191,8 @@ pub refused_found : (ns : List TypeNode) (n i : ℕ) (f : Flaw) (x : TypeNode) �
 refused_found ns n i f x h e l = refused_at ns n i f x (slice_get_read ns (length ns) i x refl h (e x)) l
 
 -- So a refusal of a node is one of its table.
-pub refused_whole : (ns : List TypeNode) (i : ℕ) (x : TypeNode) (r : Refusal) → i < length ns → ((d : TypeNode) → x ≡ get_or ns i d) → IsDueAt (λ n. lacks (type_of ns n (Some x))) r → IsRefused ns (error_of i r)
+pub refused_whole : (ns : List TypeNode) (i : ℕ) (x : TypeNode) (r : Refusal) → i < length ns → ((d : TypeNode) → x ≡ get_or ns i d) →
+    IsDueAt (λ n. lacks (type_of ns n (Some x))) r → IsRefused ns (error_of i r)
 refused_whole ns i x (Flawed f) h e d = refused_found ns d.levels i f x h e d.told
 refused_whole ns i x NoMemory h e d = tt
 

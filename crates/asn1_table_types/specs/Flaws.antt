@@ -15,7 +15,7 @@ use Rattle.asn1_table_types.specs.declared.faults.Flaw.TheVariants.{GroupOutOfPl
 use Rattle.asn1_table_types.specs.declared.faults.Flaw.TheVariants.{ItemTwice, ComponentMissing, AlternativeMissing}
 use Rattle.asn1_table_types.specs.declared.faults.Flaw.TheVariants.{TagsOutOfOrder, DefaultOfOtherType}
 
--- A group stands among additions (true) alone, and there as optional.
+-- A group is among additions (true) alone, and there optional.
 abbrev pub is_in_place : Bool → Presence → Schema → Bool
 is_in_place added o s = cond added (not (is_group s) || is_optional o) (not (is_group s))
 
@@ -28,7 +28,7 @@ abbrev pub are_components : Bool → Components → Bool
 are_components added no_component = true
 are_components added (component ts o s cs) = is_component added ts o s && are_components added cs
 
--- The components of a SEQUENCE or SET together: additions stand behind an extension marker, and all tags differ (X.680
+-- The components of a SEQUENCE or SET together: additions come after an extension marker, and all tags differ (X.680
 -- 25 and 27).
 abbrev pub are_together : Components → Bool → Components → Bool
 are_together cs e adds =

@@ -21,7 +21,7 @@ pub enum Flaw {
     #[error("there is no root item")]
     ItemMissing,
     /// The numbers of the root items, or those of the added ones, do not ascend.
-    #[error("the items do not stand in ascending order")]
+    #[error("the items are not in ascending order")]
     ItemsOutOfOrder,
     /// Two items have one number.
     #[error("an item occurs twice")]
@@ -35,8 +35,8 @@ pub enum Flaw {
     /// Two components, or two alternatives, have one tag.
     #[error("a tag occurs twice")]
     TagTwice,
-    /// The root components of a SET, or the root alternatives of a CHOICE, do not stand in the order of their tags.
-    #[error("the tags do not stand in ascending order")]
+    /// The root components of a SET, or the root alternatives of a CHOICE, are not in the order of their tags.
+    #[error("the tags are not in ascending order")]
     TagsOutOfOrder,
     /// A component has no tag.
     #[error("a component has no tag")]
@@ -47,7 +47,7 @@ pub enum Flaw {
     /// A default is no value of its component's type.
     #[error("a default is of another type")]
     DefaultOfOtherType,
-    /// A group of additions stands where none may: elsewhere than among additions, or there and not as OPTIONAL.
+    /// A group of additions is where none may be: elsewhere than among additions, or there and not as OPTIONAL.
     #[error("an extension addition group is misplaced")]
     GroupOutOfPlace,
 }

@@ -1,5 +1,5 @@
 //! The types of a table as an author writes them. A type names another by its place in the table, counted from 0. At a
-//! place outside the table stands a type without values, as below the levels to which a recursive type is unfolded.
+//! place outside the table is a type without values, as below the levels to which a recursive type is unfolded.
 use crate::Event;
 use asn1_schema_constraints::{Bounded, Sizes};
 use asn1_schema_tags::Tag;
@@ -23,7 +23,7 @@ pub enum TypeNode {
     CharacterString(StringTable),
     /// OBJECT IDENTIFIER (X.680 32).
     ObjectIdentifier,
-    /// SEQUENCE OF (X.680 26): its sizes, and the place of its members' type.
+    /// SEQUENCE OF (X.680 26): its sizes, and the place of its elements' type.
     SequenceOf(Sizes, usize),
     /// SET OF (X.680 28): the same.
     SetOf(Sizes, usize),
@@ -31,7 +31,7 @@ pub enum TypeNode {
     Sequence(ComponentTable),
     /// SET (X.680 27), the root components in the order of their tags (X.680 8.6).
     Set(ComponentTable),
-    /// A group of additions (X.680 25), which stands among additions as an optional one of them.
+    /// A group of additions (X.680 25), which is an optional one among additions.
     Group(Vec<Component>),
     /// CHOICE (X.680 29).
     Choice(AlternativeTable),
@@ -107,7 +107,7 @@ pub struct ComponentTable {
     pub root: Vec<Component>,
     /// Whether there is an extension marker.
     pub is_extensible: bool,
-    /// The additions behind it.
+    /// The additions after it.
     pub additions: Vec<Component>,
 }
 

@@ -70,7 +70,7 @@ fn check_place(alloc: Global, nodes: &[TypeNode], place: usize) -> Result<(), Ta
     }
 }
 
-/// A node of a table meets what is asked of it, and so do its defaults.
+/// A node of a table meets its conditions, and so do its defaults.
 fn check_whole(alloc: Global, nodes: &[TypeNode], node: &TypeNode) -> Result<(), Refusal>
     ensures sound { OnOk result (is_sound (type_of nodes.now 2 (Some node.now)) ≡ true) }
     ensures typed { OnOk result ((n : ℕ) → has_defaults (type_of nodes.now n (Some node.now)) ≡ true) }

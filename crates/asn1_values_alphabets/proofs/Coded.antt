@@ -1,5 +1,7 @@
 -- Codes of characters that ascend.
-use Rattle.std.proofs.Common.{◌≡◌, ◌≢◌, ℕ, suc, ◌-◌, ◌*◌, ◌%◌, ◌^◌, ◌<◌, ◌≤◌, Bool, true, false, cond, ltb, List, [], ◌∷◌, length, get_or, Option, Some, None, option_map, ◌⊎◌, inl, inr, refl, sym, subst, ◌∙◌, arith, lit<, ap}
+use Rattle.std.proofs.Common.{◌≡◌, ◌≢◌, ℕ, suc, ◌-◌, ◌*◌, ◌%◌, ◌^◌, ◌<◌, ◌≤◌, Bool, true, false, cond, ltb, List, []}
+use Rattle.std.proofs.Common.{◌∷◌, length, get_or, Option, Some, None, option_map, ◌⊎◌, inl, inr, refl, sym, subst, ◌∙◌}
+use Rattle.std.proofs.Common.{arith, lit<, ap}
 use Rattle.std.proofs.lemmas.Bool.{ltb-true}
 use Rattle.std.specs.Prelude.{Result, Ok, Err, MatchResult}
 use Rattle.std.specs.Result.{result_ok}
@@ -107,7 +109,9 @@ le_or_lt : (i k : ℕ) → (i ≤ k) ⊎ (k < i)
 le_or_lt i k = grind arith
 
 -- what a binary search finds is the index
-pub found_place : (cs : List ℕ) (x : ℕ) (r : Result ℕ ℕ) → Ascends cs → MatchResult r (λ i. (i < length cs) × (get_or cs i 0 ≡ x)) (λ i. (i ≤ length cs) × ((k : ℕ) → k < i → get_or cs k 0 < x) × ((k : ℕ) → i ≤ k → k < length cs → x < get_or cs k 0)) → result_ok r ≡ place_of x (singles cs)
+pub found_place : (cs : List ℕ) (x : ℕ) (r : Result ℕ ℕ) → Ascends cs →
+    MatchResult r (λ i. (i < length cs) × (get_or cs i 0 ≡ x)) (λ i. (i ≤ length cs) × ((k : ℕ) → k < i → get_or cs k 0 < x) ×
+    ((k : ℕ) → i ≤ k → k < length cs → x < get_or cs k 0)) → result_ok r ≡ place_of x (singles cs)
 found_place cs x (Ok i) a h = rw (← h.1, place_of-get_or cs i a h.0) refl
 found_place cs x (Err i) a h = rw (place_of-none cs x (λ k l e. nowhere k l e (le_or_lt i k))) refl
   where

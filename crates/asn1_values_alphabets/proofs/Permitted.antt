@@ -44,12 +44,14 @@ pub find-append : (p : ℕ → Bool) (cs ds : List ℕ) → list_all p cs ≡ tr
 find-append p [] ds h = refl
 find-append p (x ∷ cs) ds h = by_test (p x) h (λ i. find-append p cs ds i)
   where
-    by_test : (t : Bool) → t && list_all p cs ≡ true → (list_all p cs ≡ true → find (λ c. not (p c)) (cs ++ ds) ≡ find (λ c. not (p c)) ds) → cond (not t) (Some x) (find (λ c. not (p c)) (cs ++ ds)) ≡ find (λ c. not (p c)) ds
+    by_test : (t : Bool) → t && list_all p cs ≡ true → (list_all p cs ≡ true → find (λ c. not (p c)) (cs ++ ds) ≡ find (λ c. not (p c)) ds) →
+        cond (not t) (Some x) (find (λ c. not (p c)) (cs ++ ds)) ≡ find (λ c. not (p c)) ds
     by_test true i r = r i
     by_test false i r = cc
 
 -- the error for a character is that for all if it is the first rejected one
-pub refused_by_first : (k : StringKind) (refused : ℕ → InvalidRestrictedString) (c : ℕ) (cs all : List ℕ) (e : PermittedAlphabetError) → first_refused k (c ∷ cs) ≡ first_refused k all → permits_all k all ≡ true → IsRefusalOf k refused (c ∷ []) e → IsRefusalOf k refused all e
+pub refused_by_first : (k : StringKind) (refused : ℕ → InvalidRestrictedString) (c : ℕ) (cs all : List ℕ) (e : PermittedAlphabetError) →
+    first_refused k (c ∷ cs) ≡ first_refused k all → permits_all k all ≡ true → IsRefusalOf k refused (c ∷ []) e → IsRefusalOf k refused all e
 refused_by_first k refused c cs all Other h p r = r
 refused_by_first k refused c cs all InvalidData h p r = r
 refused_by_first k refused c cs all (IndexNotFound i) h p r = r

@@ -1,5 +1,7 @@
 -- Indices among runs of one character.
-use Rattle.std.proofs.Common.{◌≡◌, ◌≢◌, ℕ, zero, suc, ◌+◌, ◌-◌, ◌<◌, ◌≤◌, Bool, true, false, cond, List, [], ◌∷◌, length, get_or, Option, Some, None, option_map, ◌⊎◌, inl, inr, refl, sym, subst, arith, ap}
+use Rattle.std.proofs.Common.{◌≡◌, ◌≢◌, ℕ, zero, suc, ◌+◌, ◌-◌, ◌<◌, ◌≤◌, Bool, true, false, cond, List, [], ◌∷◌}
+use Rattle.std.proofs.Common.{length, get_or, Option, Some, None, option_map, ◌⊎◌, inl, inr, refl, sym, subst, arith}
+use Rattle.std.proofs.Common.{ap}
 use Rattle.std.proofs.lemmas.Bool.Decides.{nat_tests}
 use Rattle.std.specs.List.Sorted.{IsStrictlyIncreasing}
 use Rattle.std.proofs.lemmas.List.Kept.{AllPairs-from_increasing}
@@ -84,7 +86,8 @@ stands_at (c ∷ cs) x i e = by_test (is_in_run x (run c c)) refl (λ k p. stand
         let m : suc k ≡ i = omega arith in
         subst (λ j. StandsAt (c ∷ cs) x j) m (record { within = omega (arith, s.within); is = s.is })
 
-    by_test : (t : Bool) → is_in_run x (run c c) ≡ t → ((k : ℕ) → place_of x (singles cs) ≡ Some k → StandsAt cs x k) → cond t (Some (x - c)) (option_map (λ k. c + 1 - c + k) (place_of x (singles cs))) ≡ Some i → StandsAt (c ∷ cs) x i
+    by_test : (t : Bool) → is_in_run x (run c c) ≡ t → ((k : ℕ) → place_of x (singles cs) ≡ Some k → StandsAt cs x k) →
+        cond t (Some (x - c)) (option_map (λ k. c + 1 - c + k) (place_of x (singles cs))) ≡ Some i → StandsAt (c ∷ cs) x i
     by_test true p r q =
         let s = is_own x c p in
         let n : x - c ≡ i = cc in

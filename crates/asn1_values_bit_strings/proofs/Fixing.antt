@@ -49,7 +49,8 @@ zeros_first n =
     ∙ take_at (replicate n false) (replicate (n * 7) false) n (length-replicate n false)
 
 -- octets that were zero, once the bits of a view are written into them
-pub fill_kept : (os : List ℕ) (n : ℕ) (bits all : List Bool) → os ≡ fixed_octets (length {A = ℕ} (replicate n 0)) bits → octet_bits os ≡ to_come (length {A = ℕ} (replicate n 0)) bits → bits ≡ take n all → n ≤ length all → os ≡ fixed_octets n (take n (octet_bits os))
+pub fill_kept : (os : List ℕ) (n : ℕ) (bits all : List Bool) → os ≡ fixed_octets (length {A = ℕ} (replicate n 0)) bits →
+    octet_bits os ≡ to_come (length {A = ℕ} (replicate n 0)) bits → bits ≡ take n all → n ≤ length all → os ≡ fixed_octets n (take n (octet_bits os))
 fill_kept os n bits all f e b h =
     let m : length {A = ℕ} (replicate n 0) ≡ n = length-replicate n 0 in
     fixed_kept os n bits (f ∙ ap (λ k. fixed_octets k bits) m) (e ∙ ap (λ k. to_come k bits) m) (ap length b ∙ length-take-le n all h)

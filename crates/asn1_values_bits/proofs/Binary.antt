@@ -1,5 +1,7 @@
 -- The binary digits of a number, joined and cut, and the bits of octets.
-use Rattle.std.proofs.Common.{◌≡◌, ℕ, zero, suc, ◌+◌, ◌-◌, ◌*◌, ◌/◌, ◌%◌, ◌^◌, ◌<◌, ◌≤◌, ◌==◌, Bool, true, false, List, [], ◌∷◌, ◌++◌, length, replicate, take, drop, refl, ap, sym, ◌∙◌, append_assoc, length-append, arith}
+use Rattle.std.proofs.Common.{◌≡◌, ℕ, zero, suc, ◌+◌, ◌-◌, ◌*◌, ◌/◌, ◌%◌, ◌^◌, ◌<◌, ◌≤◌, ◌==◌, Bool, true, false, List}
+use Rattle.std.proofs.Common.{[], ◌∷◌, ◌++◌, length, replicate, take, drop, refl, ap, sym, ◌∙◌, append_assoc}
+use Rattle.std.proofs.Common.{length-append, arith}
 use Rattle.std.proofs.lemmas.Nat.{shr-shr, mod-mul-add, field_of, pow_pos, div-mul-add, mod-pow-add}
 use Rattle.std.proofs.lemmas.Nat.Bits.{bit_at_ones}
 use Rattle.std.proofs.lemmas.List.{replicate-append-replicate, take_at, drop_at, append-nil, take-append-drop, length-take-le}
@@ -85,7 +87,8 @@ octet_bits_push xs x = octet_bits-append xs (x ∷ []) ∙ ap (λ l. octet_bits 
 pub octet_bits-take : (k : ℕ) (os : List ℕ) → k ≤ length os → octet_bits (take k os) ≡ take (k * 8) (octet_bits os)
 octet_bits-take k os h =
     let n : length (octet_bits (take k os)) ≡ k * 8 = omega (arith, length-octet_bits (take k os), length-take-le k os h) in
-    sym (ap (λ l. take (k * 8) (octet_bits l)) (sym (take-append-drop k os)) ∙ ap (take (k * 8)) (octet_bits-append (take k os) (drop k os)) ∙ take_at (octet_bits (take k os)) (octet_bits (drop k os)) (k * 8) n)
+    sym (ap (λ l. take (k * 8) (octet_bits l)) (sym (take-append-drop k os)) ∙ ap (take (k * 8)) (octet_bits-append (take k os) (drop k os)) ∙
+    take_at (octet_bits (take k os)) (octet_bits (drop k os)) (k * 8) n)
 
 -- the largest number of k binary digits has ones alone
 pub binary_ones : (k w : ℕ) → w ≤ k → binary w (2 ^ k - 1) ≡ replicate w true

@@ -59,10 +59,12 @@ in_front : (X : List Bool) (few x : ℕ) → binary few x ≡ take few X → X �
 in_front X few x e = sym (take-append-drop few X) ∙ ap (λ l. l ++ drop few X) (sym e)
 
 pub front_less : (X Y : List Bool) (few x y : ℕ) → binary few x ≡ take few X → binary few y ≡ take few Y → x < y → y < 2 ^ few → slice_cmp bool_cmp X Y ≡ Less
-front_less X Y few x y d e h l = ap (λ k. slice_cmp bool_cmp k Y) (in_front X few x d) ∙ ap (slice_cmp bool_cmp (binary few x ++ drop few X)) (in_front Y few y e) ∙ smaller_first few x y (drop few X) (drop few Y) h l
+front_less X Y few x y d e h l = ap (λ k. slice_cmp bool_cmp k Y) (in_front X few x d) ∙
+    ap (slice_cmp bool_cmp (binary few x ++ drop few X)) (in_front Y few y e) ∙ smaller_first few x y (drop few X) (drop few Y) h l
 
 pub front_greater : (X Y : List Bool) (few x y : ℕ) → binary few x ≡ take few X → binary few y ≡ take few Y → y < x → x < 2 ^ few → slice_cmp bool_cmp X Y ≡ Greater
-front_greater X Y few x y d e h l = ap (λ k. slice_cmp bool_cmp k Y) (in_front X few x d) ∙ ap (slice_cmp bool_cmp (binary few x ++ drop few X)) (in_front Y few y e) ∙ larger_last few x y (drop few X) (drop few Y) h l
+front_greater X Y few x y d e h l = ap (λ k. slice_cmp bool_cmp k Y) (in_front X few x d) ∙
+    ap (slice_cmp bool_cmp (binary few x ++ drop few X)) (in_front Y few y e) ∙ larger_last few x y (drop few X) (drop few Y) h l
 
 pub front_equal : (X Y : List Bool) (few x y : ℕ) → binary few x ≡ take few X → binary few y ≡ take few Y → x ≡ y → slice_cmp bool_cmp (drop few X) (drop few Y) ≡ slice_cmp bool_cmp X Y
 front_equal X Y few x y d e h =

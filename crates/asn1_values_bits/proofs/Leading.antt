@@ -14,7 +14,8 @@ packed-next o r h =
     ap (λ x. x ∷ packed r) value
 
 -- a number of the first bits, at most eight, as an octet
-pub octet_leads : (bs : List Bool) (few v : ℕ) → 0 < length bs → few ≡ min (length bs) 8 → binary few v ≡ take few bs → v < 2 ^ few → packed (padded bs) ≡ v * 2 ^ (8 - few) ∷ packed (padded (drop few bs))
+pub octet_leads : (bs : List Bool) (few v : ℕ) → 0 < length bs → few ≡ min (length bs) 8 → binary few v ≡ take few bs → v < 2 ^ few →
+    packed (padded bs) ≡ v * 2 ^ (8 - few) ∷ packed (padded (drop few bs))
 octet_leads bs few v some f e h =
     let n : ℕ = (length bs + 7) / 8 - 1 in
     let eight : few + (8 - few) ≡ 8 = omega arith in

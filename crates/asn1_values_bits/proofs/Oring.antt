@@ -1,5 +1,7 @@
 -- Bits ORed into octets.
-use Rattle.std.proofs.Common.{◌≡◌, ℕ, zero, suc, ◌+◌, ◌-◌, ◌*◌, ◌/◌, ◌%◌, ◌^◌, ◌<◌, ◌≤◌, ◌==◌, Bool, true, false, ◌||◌, max, List, [], ◌∷◌, ◌++◌, length, replicate, take, drop, get_or, set, refl, ap, sym, ◌∙◌, append_assoc, length-append, arith, bit_or}
+use Rattle.std.proofs.Common.{◌≡◌, ℕ, zero, suc, ◌+◌, ◌-◌, ◌*◌, ◌/◌, ◌%◌, ◌^◌, ◌<◌, ◌≤◌, ◌==◌, Bool, true, false, ◌||◌}
+use Rattle.std.proofs.Common.{max, List, [], ◌∷◌, ◌++◌, length, replicate, take, drop, get_or, set, refl, ap, sym, ◌∙◌}
+use Rattle.std.proofs.Common.{append_assoc, length-append, arith, bit_or}
 use Rattle.std.proofs.lemmas.Nat.Bits.{bit_at_or}
 use Rattle.std.proofs.lemmas.List.{length-replicate, replicate-append-replicate, length-take-le}
 use Rattle.std.proofs.lemmas.Nat.{div-mul-add}
@@ -60,7 +62,8 @@ length-placed place total bits h =
     ∙ (omega (arith, length-replicate place false, length-append bits (replicate (total - (place + length bits)) false), length-replicate (total - (place + length bits)) false))
 
 -- an octet ORed with another
-pub octet_or : (os : List ℕ) (q x y : ℕ) → q < length os → x ≡ get_or os q x → octet_bits (set os q (bit_or x y)) ≡ ored (octet_bits os) (replicate (q * 8) false ++ (binary 8 y ++ replicate ((length os - (q + 1)) * 8) false))
+pub octet_or : (os : List ℕ) (q x y : ℕ) → q < length os → x ≡ get_or os q x → octet_bits (set os q (bit_or x y))
+    ≡ ored (octet_bits os) (replicate (q * 8) false ++ (binary 8 y ++ replicate ((length os - (q + 1)) * 8) false))
 octet_or [] q x y h r = absurd (omega arith)
 octet_or (z ∷ os) zero x y h r =
     let n : (length (z ∷ os) - (0 + 1)) * 8 ≡ length os * 8 = omega arith in
@@ -76,10 +79,12 @@ octet_or (z ∷ os) (suc q) x y h r =
     ap (λ l. binary 8 z ++ l) (octet_or os q x y (omega arith) r)
     ∙ ap (λ l. l ++ ored (octet_bits os) (replicate (q * 8) false ++ Y)) (sym (ored_zeros (binary 8 z) 8 (length-binary 8 z)))
     ∙ sym (ored-append (binary 8 z) (replicate 8 false) (octet_bits os) (replicate (q * 8) false ++ Y) (length-binary 8 z ∙ sym (length-replicate 8 false)))
-    ∙ ap (ored (binary 8 z ++ octet_bits os)) (sym (append_assoc (replicate 8 false) (replicate (q * 8) false) Y) ∙ ap (λ l. l ++ Y) front ∙ ap (λ k. replicate (suc q * 8) false ++ (binary 8 y ++ replicate k false)) (sym n))
+    ∙ ap (ored (binary 8 z ++ octet_bits os)) (sym (append_assoc (replicate 8 false) (replicate (q * 8) false) Y) ∙ ap (λ l. l ++ Y) front ∙
+    ap (λ k. replicate (suc q * 8) false ++ (binary 8 y ++ replicate k false)) (sym n))
 
 -- some bits of an octet among zero bits
-pub few_placed : (q offset few v total : ℕ) → offset + few ≤ 8 → v < 2 ^ few → (q + 1) * 8 ≤ total → replicate (q * 8) false ++ (binary 8 (v * 2 ^ (8 - offset - few)) ++ replicate (total - (q + 1) * 8) false) ≡ placed (q * 8 + offset) (binary few v) total
+pub few_placed : (q offset few v total : ℕ) → offset + few ≤ 8 → v < 2 ^ few → (q + 1) * 8 ≤ total →
+    replicate (q * 8) false ++ (binary 8 (v * 2 ^ (8 - offset - few)) ++ replicate (total - (q + 1) * 8) false) ≡ placed (q * 8 + offset) (binary few v) total
 few_placed q offset few v total h l t =
     let past : ℕ = 8 - offset - few in
     let F : List Bool = binary few v in
@@ -92,7 +97,8 @@ few_placed q offset few v total h l t =
     ap (λ k. binary k (v * 2 ^ past)) (sym eight) ∙ binary_shifted (offset + few) past v
     ∙ ap (λ k. k ++ replicate past false) (binary_split offset few v ∙ ap (λ k. binary offset k ++ F) none ∙ ap (λ k. k ++ F) (binary_zero offset)) in
     ap (λ k. replicate (q * 8) false ++ (k ++ replicate rest false)) high
-    ∙ ap (λ k. replicate (q * 8) false ++ k) (append_assoc (replicate offset false ++ F) (replicate past false) (replicate rest false) ∙ append_assoc (replicate offset false) F (replicate past false ++ replicate rest false))
+    ∙ ap (λ k. replicate (q * 8) false ++ k) (append_assoc (replicate offset false ++ F) (replicate past false) (replicate rest false) ∙
+    append_assoc (replicate offset false) F (replicate past false ++ replicate rest false))
     ∙ sym (append_assoc (replicate (q * 8) false) (replicate offset false) (F ++ (replicate past false ++ replicate rest false)))
     ∙ ap (λ k. k ++ (F ++ (replicate past false ++ replicate rest false))) (replicate-append-replicate (q * 8) offset false)
     ∙ ap (λ k. replicate (q * 8 + offset) false ++ (F ++ k)) (replicate-append-replicate past rest false ∙ ap (λ k. replicate k false) end)
@@ -105,12 +111,14 @@ placed_more p done total t m h l =
     let M : List Bool = m ++ replicate n2 false in
     let size : length M ≡ n1 = length-append m (replicate n2 false) ∙ (omega (arith, length-replicate n2 false)) in
     let end : n2 ≡ total - (p + length (t ++ m)) = omega (arith, length-append t m) in
-    let behind : placed (p + done) m total ≡ replicate p false ++ (replicate done false ++ M) = ap (λ k. k ++ M) (sym (replicate-append-replicate p done false)) ∙ append_assoc (replicate p false) (replicate done false) M in
+    let behind : placed (p + done) m total ≡ replicate p false ++ (replicate done false ++ M) =
+    ap (λ k. k ++ M) (sym (replicate-append-replicate p done false)) ∙ append_assoc (replicate p false) (replicate done false) M in
     ap (ored (placed p t total)) behind
     ∙ ored-append (replicate p false) (replicate p false) (t ++ replicate n1 false) (replicate done false ++ M) refl
     ∙ ap (λ k. k ++ ored (t ++ replicate n1 false) (replicate done false ++ M)) (ored_zeros (replicate p false) p (length-replicate p false))
     ∙ ap (λ k. replicate p false ++ k) (ored-append t (replicate done false) (replicate n1 false) M (h ∙ sym (length-replicate done false))
-    ∙ ap (λ k. k ++ ored (replicate n1 false) M) (ored_zeros t done h) ∙ ap (λ k. t ++ k) (zeros_ored M n1 size) ∙ sym (append_assoc t m (replicate n2 false)) ∙ ap (λ k. (t ++ m) ++ replicate k false) end)
+    ∙ ap (λ k. k ++ ored (replicate n1 false) M) (ored_zeros t done h) ∙ ap (λ k. t ++ k) (zeros_ored M n1 size) ∙
+    sym (append_assoc t m (replicate n2 false)) ∙ ap (λ k. (t ++ m) ++ replicate k false) end)
 
 -- nothing placed
 pub placed_none : (B : List Bool) (p total : ℕ) → length B ≡ total → p ≤ total → B ≡ ored B (placed p [] total)
@@ -119,7 +127,10 @@ placed_none B p total h l =
     sym (ap (ored B) (replicate-append-replicate p (total - (p + 0)) false ∙ ap (λ k. replicate k false) all) ∙ ored_zeros B total h)
 
 -- one octet's part of the whole
-pub or_on : (B now S : List Bool) (os : List ℕ) (p done few v q offset x y total : ℕ) → length B ≡ total → length os * 8 ≡ total → octet_bits os ≡ ored B (placed p (take done S) total) → p + done ≡ q * 8 + offset → offset + few ≤ 8 → q < length os → x ≡ get_or os q x → v < 2 ^ few → binary few v ≡ take few (drop done S) → y ≡ v * 2 ^ (8 - offset - few) → done + few ≤ length S → p + (done + few) ≤ total → octet_bits (set os q (bit_or x y)) ≡ ored B (placed p (take (done + few) S) total)
+pub or_on : (B now S : List Bool) (os : List ℕ) (p done few v q offset x y total : ℕ) → length B ≡ total → length os * 8 ≡ total →
+    octet_bits os ≡ ored B (placed p (take done S) total) → p + done ≡ q * 8 + offset → offset + few ≤ 8 → q < length os → x ≡ get_or os q x →
+    v < 2 ^ few → binary few v ≡ take few (drop done S) → y ≡ v * 2 ^ (8 - offset - few) → done + few ≤ length S → p + (done + few) ≤ total →
+    octet_bits (set os q (bit_or x y)) ≡ ored B (placed p (take (done + few) S) total)
 or_on B now S os p done few v q offset x y total hB hos m pl h l r fits d e hS hp =
     let room : (length os - (q + 1)) * 8 ≡ total - (q + 1) * 8 = omega arith in
     let t : length (take done S) ≡ done = length-take-le done S (omega arith) in
@@ -130,7 +141,8 @@ or_on B now S os p done few v q offset x y total hB hos m pl h l r fits d e hS h
     ∙ ap (ored (octet_bits os)) (few_placed q offset few v total h fits (omega arith))
     ∙ ap (λ k. ored (octet_bits os) (placed k (binary few v) total)) (sym pl) in
     let one : length B ≡ length (placed p (take done S) total) = hB ∙ sym (length-placed p total (take done S) (omega arith)) in
-    let two : length (placed p (take done S) total) ≡ length (placed (p + done) (binary few v) total) = length-placed p total (take done S) (omega arith) ∙ sym (length-placed (p + done) total (binary few v) (omega (arith, length-binary few v))) in
+    let two : length (placed p (take done S) total) ≡ length (placed (p + done) (binary few v) total) =
+    length-placed p total (take done S) (omega arith) ∙ sym (length-placed (p + done) total (binary few v) (omega (arith, length-binary few v))) in
     first ∙ ap (λ k. ored k (placed (p + done) (binary few v) total)) m
     ∙ ored_assoc B (placed p (take done S) total) (placed (p + done) (binary few v) total) one two
     ∙ ap (ored B) (placed_more p done total (take done S) (binary few v) t (omega (arith, length-binary few v))

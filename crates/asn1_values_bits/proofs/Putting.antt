@@ -1,5 +1,7 @@
 -- Bits written over others.
-use Rattle.std.proofs.Common.{◌≡◌, ℕ, ◌+◌, ◌-◌, ◌*◌, ◌/◌, ◌%◌, ◌^◌, ◌<◌, ◌≤◌, Bool, false, List, ◌∷◌, ◌++◌, length, replicate, take, drop, get_or, set, ap, sym, ◌∙◌, append_assoc, length-append, arith, bit_or, bit_and}
+use Rattle.std.proofs.Common.{◌≡◌, ℕ, ◌+◌, ◌-◌, ◌*◌, ◌/◌, ◌%◌, ◌^◌, ◌<◌, ◌≤◌, Bool, false, List, ◌∷◌, ◌++◌, length}
+use Rattle.std.proofs.Common.{replicate, take, drop, get_or, set, ap, sym, ◌∙◌, append_assoc, length-append, arith}
+use Rattle.std.proofs.Common.{bit_or, bit_and}
 use Rattle.std.proofs.lemmas.Nat.{shr_below, pow_pos, mod_below, or_shifted, shl_whole, pow-add, mul-add-lt}
 use Rattle.std.proofs.lemmas.List.{drop-drop, take_at, drop_at, set_at, length-take-le, length-drop, take-append-drop, take-append-le, drop-append-le, drop_more}
 use Rattle.asn1_model.specs.Numbers.{binary, octet_bits, missing}
@@ -7,7 +9,8 @@ use Rattle.asn1_values_bits.proofs.Binary.{length-binary, binary_split, binary_j
 use Rattle.asn1_values_bits.proofs.Reading.{joined_digits, joined_small}
 
 -- an octet with some of its bits changed
-pub mixed : (x v offset count past : ℕ) → offset + (count + past) ≡ 8 → v < 2 ^ count → binary 8 ((x / 2 ^ (count + past) * 2 ^ count + v) * 2 ^ past + x % 2 ^ past) ≡ binary offset (x / 2 ^ (count + past)) ++ (binary count v ++ binary past x)
+pub mixed : (x v offset count past : ℕ) → offset + (count + past) ≡ 8 → v < 2 ^ count →
+    binary 8 ((x / 2 ^ (count + past) * 2 ^ count + v) * 2 ^ past + x % 2 ^ past) ≡ binary offset (x / 2 ^ (count + past)) ++ (binary count v ++ binary past x)
 mixed x v offset count past n h =
     let whole : (offset + count) + past ≡ 8 = omega arith in
     ap (λ k. binary k ((x / 2 ^ (count + past) * 2 ^ count + v) * 2 ^ past + x % 2 ^ past)) (sym whole)
@@ -17,7 +20,9 @@ mixed x v offset count past n h =
     ∙ append_assoc (binary offset (x / 2 ^ (count + past))) (binary count v) (binary past x)
 
 -- the octets with one of them changed so
-pub octet_put : (os : List ℕ) (place q offset count past x y v : ℕ) → place ≡ q * 8 + offset → offset + (count + past) ≡ 8 → q < length os → x ≡ get_or os q x → binary 8 y ≡ binary offset (x / 2 ^ (count + past)) ++ (binary count v ++ binary past x) → octet_bits (set os q y) ≡ take place (octet_bits os) ++ (binary count v ++ drop (place + count) (octet_bits os))
+pub octet_put : (os : List ℕ) (place q offset count past x y v : ℕ) → place ≡ q * 8 + offset → offset + (count + past) ≡ 8 → q < length os →
+    x ≡ get_or os q x → binary 8 y ≡ binary offset (x / 2 ^ (count + past)) ++ (binary count v ++ binary past x) →
+    octet_bits (set os q y) ≡ take place (octet_bits os) ++ (binary count v ++ drop (place + count) (octet_bits os))
 octet_put os place q offset count past x y v p n l r e =
     let P : List Bool = octet_bits (take q os) in
     let a : List Bool = binary offset (x / 2 ^ (count + past)) in
@@ -40,7 +45,9 @@ octet_put os place q offset count past x y v p n l r e =
     ∙ ap (λ k. k ++ (binary count v ++ (c ++ Q))) (sym first) ∙ ap (λ k. take place (octet_bits os) ++ (binary count v ++ k)) (sym last)
 
 -- .. of a kept list
-pub kept_put : (os os' : List ℕ) (v m : List Bool) (len place count : ℕ) → octet_bits os ≡ v ++ replicate (missing len) false → length v ≡ len → place + count ≤ len → octet_bits os' ≡ take place (octet_bits os) ++ (m ++ drop (place + count) (octet_bits os)) → octet_bits os' ≡ (take place v ++ (m ++ drop (place + count) v)) ++ replicate (missing len) false
+pub kept_put : (os os' : List ℕ) (v m : List Bool) (len place count : ℕ) → octet_bits os ≡ v ++ replicate (missing len) false → length v ≡ len →
+    place + count ≤ len → octet_bits os' ≡ take place (octet_bits os) ++ (m ++ drop (place + count) (octet_bits os)) →
+    octet_bits os' ≡ (take place v ++ (m ++ drop (place + count) v)) ++ replicate (missing len) false
 kept_put os os' v m len place count e n h s =
     let Z : List Bool = replicate (missing len) false in
     let first : take place (octet_bits os) ≡ take place v = ap (take place) e ∙ take-append-le place v Z (omega arith) in
@@ -55,7 +62,8 @@ front_small x v offset count past n s h =
     let high : x / 2 ^ (count + past) < 2 ^ offset = shr_below x offset (count + past) (rw n s) in
     rw (e, pow-add 2 count offset) (mul-add-lt (x / 2 ^ (count + past)) (2 ^ count) v (2 ^ offset) high h)
 
-pub mixed_is : (x v offset count past : ℕ) → offset + (count + past) ≡ 8 → x < 256 → v < 2 ^ count → bit_or (bit_or (x / 2 ^ (count + past) * 2 ^ count % 2 ^ 16) v * 2 ^ past % 2 ^ 16) (bit_and x (1 * 2 ^ past % 2 ^ 16 - 1)) ≡ (x / 2 ^ (count + past) * 2 ^ count + v) * 2 ^ past + x % 2 ^ past
+pub mixed_is : (x v offset count past : ℕ) → offset + (count + past) ≡ 8 → x < 256 → v < 2 ^ count →
+    bit_or (bit_or (x / 2 ^ (count + past) * 2 ^ count % 2 ^ 16) v * 2 ^ past % 2 ^ 16) (bit_and x (1 * 2 ^ past % 2 ^ 16 - 1)) ≡ (x / 2 ^ (count + past) * 2 ^ count + v) * 2 ^ past + x % 2 ^ past
 mixed_is x v offset count past n s h =
     let high : x / 2 ^ (count + past) < 2 ^ offset = shr_below x offset (count + past) (rw n s) in
     let inner : bit_or (x / 2 ^ (count + past) * 2 ^ count % 2 ^ 16) v ≡ x / 2 ^ (count + past) * 2 ^ count + v =
@@ -69,7 +77,9 @@ mixed_small x v offset count past n s h =
     rw e at (joined_small (offset + count) past (x / 2 ^ (count + past) * 2 ^ count + v) x (front_small x v offset count past n s h))
 
 -- one turn of writing
-pub put_on : (now before new all : List Bool) (place few left value end : ℕ) → few ≤ left → place + left ≡ end → end ≤ length now → new ≡ take place now ++ (binary few (value / 2 ^ (left - few)) ++ drop (place + few) now) → take place now ++ (binary left value ++ drop end now) ≡ all → take (place + few) new ++ (binary (left - few) value ++ drop end new) ≡ all
+pub put_on : (now before new all : List Bool) (place few left value end : ℕ) → few ≤ left → place + left ≡ end → end ≤ length now →
+    new ≡ take place now ++ (binary few (value / 2 ^ (left - few)) ++ drop (place + few) now) →
+    take place now ++ (binary left value ++ drop end now) ≡ all → take (place + few) new ++ (binary (left - few) value ++ drop end new) ≡ all
 put_on now before new all place few left value end h p l e m =
     let b : List Bool = binary few (value / 2 ^ (left - few)) in
     let front : List Bool = take place now ++ b in

@@ -8,10 +8,12 @@ use Rattle.asn1_values_bits.proofs.Binary.{length-binary, binary_split, binary_j
 pub octet_bits-drop : (k : ℕ) (os : List ℕ) → k ≤ length os → octet_bits (drop k os) ≡ drop (k * 8) (octet_bits os)
 octet_bits-drop k os h =
     let n : length (octet_bits (take k os)) ≡ k * 8 = omega (arith, length-octet_bits (take k os), length-take-le k os h) in
-    sym (ap (λ l. drop (k * 8) (octet_bits l)) (sym (take-append-drop k os)) ∙ ap (drop (k * 8)) (octet_bits-append (take k os) (drop k os)) ∙ drop_at (octet_bits (take k os)) (octet_bits (drop k os)) (k * 8) n)
+    sym (ap (λ l. drop (k * 8) (octet_bits l)) (sym (take-append-drop k os)) ∙ ap (drop (k * 8)) (octet_bits-append (take k os) (drop k os)) ∙
+    drop_at (octet_bits (take k os)) (octet_bits (drop k os)) (k * 8) n)
 
 -- some bits within one octet
-pub bits_within : (os : List ℕ) (place q offset few x : ℕ) → place ≡ q * 8 + offset → q < length os → x ≡ get_or os q x → offset + few ≤ 8 → take few (drop place (octet_bits os)) ≡ binary few (x / 2 ^ (8 - offset - few))
+pub bits_within : (os : List ℕ) (place q offset few x : ℕ) → place ≡ q * 8 + offset → q < length os → x ≡ get_or os q x → offset + few ≤ 8 →
+    take few (drop place (octet_bits os)) ≡ binary few (x / 2 ^ (8 - offset - few))
 bits_within os place q offset few x p l r h =
     let past : ℕ = 8 - offset - few in
     let high : offset + (few + past) ≡ 8 = omega arith in
@@ -46,12 +48,14 @@ wide_is w h l p n q = ap (λ x. bit_or x l) (shl_whole h w 64 128 p (omega arith
 pub wide_small : (w h l : ℕ) → h < 2 ^ w → l < 2 ^ 64 → h * 2 ^ 64 + l < 2 ^ (w + 64)
 wide_small w h l p q = let e : w + 64 ≡ 64 + w = omega arith in rw (e, pow-add 2 64 w) (mul-add-lt h (2 ^ 64) l (2 ^ w) p q)
 
-pub wide_read : (B : List Bool) (position w h l : ℕ) → l < 2 ^ 64 → binary w h ≡ take w (drop position B) → binary 64 l ≡ take 64 (drop (position + w) B) → binary (w + 64) (h * 2 ^ 64 + l) ≡ take (w + 64) (drop position B)
+pub wide_read : (B : List Bool) (position w h l : ℕ) → l < 2 ^ 64 → binary w h ≡ take w (drop position B) →
+    binary 64 l ≡ take 64 (drop (position + w) B) → binary (w + 64) (h * 2 ^ 64 + l) ≡ take (w + 64) (drop position B)
 wide_read B position w h l q a b =
     sym (binary_join w 64 h l q) ∙ ap (λ k. k ++ binary 64 l) a ∙ ap (λ k. take w (drop position B) ++ k) (b ∙ ap (take 64) (sym (drop-drop w position B))) ∙ sym (take_two w 64 (drop position B))
 
 -- one bit
-pub bit_within : (os : List ℕ) (place q offset x : ℕ) (d : Bool) → place ≡ q * 8 + offset → q < length os → x ≡ get_or os q x → offset < 8 → get_or (octet_bits os) place d ≡ (bit_and (x / 2 ^ (7 - offset)) 1 == 1)
+pub bit_within : (os : List ℕ) (place q offset x : ℕ) (d : Bool) → place ≡ q * 8 + offset → q < length os → x ≡ get_or os q x → offset < 8 →
+    get_or (octet_bits os) place d ≡ (bit_and (x / 2 ^ (7 - offset)) 1 == 1)
 bit_within os place q offset x d p l r h =
     let inside : place < length (octet_bits os) = omega (arith, length-octet_bits os) in
     let one : take 1 (drop place (octet_bits os)) ≡ get_or (octet_bits os) place d ∷ [] = ap (take 1) (drop_more (octet_bits os) place d inside) in

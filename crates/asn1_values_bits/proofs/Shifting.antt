@@ -21,14 +21,16 @@ shifted_across w o a b n h small =
     let left : binary w (a * 2 ^ o % 2 ^ w) ≡ binary past a ++ replicate o false = binary_low w (a * 2 ^ o) ∙ ap (λ k. binary k (a * 2 ^ o)) (sym all) ∙ binary_shifted past o a in
     let nothing : b / 2 ^ 8 ≡ 0 = omega arith in
     let none : y / 2 ^ o ≡ 0 = shr-shr b (8 - o) o ∙ ap (λ k. b / 2 ^ k) eight ∙ nothing in
-    let right : binary w y ≡ replicate past false ++ binary o y = ap (λ k. binary k y) (sym all) ∙ binary_split past o y ∙ ap (λ k. binary past k ++ binary o y) none ∙ ap (λ l. l ++ binary o y) (binary_zero past) in
+    let right : binary w y ≡ replicate past false ++ binary o y = ap (λ k. binary k y) (sym all) ∙ binary_split past o y ∙
+    ap (λ k. binary past k ++ binary o y) none ∙ ap (λ l. l ++ binary o y) (binary_zero past) in
     binary_or w (a * 2 ^ o % 2 ^ w) y ∙ ap (λ l. ored l (binary w y)) left ∙ ap (ored (binary past a ++ replicate o false)) right
     ∙ ored-append (binary past a) (replicate past false) (replicate o false) (binary o y) (length-binary past a ∙ sym (length-replicate past false))
     ∙ ap (λ l. l ++ ored (replicate o false) (binary o y)) (ored_zeros (binary past a) past (length-binary past a))
     ∙ ap (λ l. binary past a ++ l) (zeros_ored (binary o y) o (length-binary o y))
 
 -- the eight bits from a bit of an octet on
-pub octet_across : (os : List ℕ) (i o a b : ℕ) → o ≤ 8 → i + 1 < length os → a ≡ get_or os i a → b ≡ get_or os (i + 1) b → b < 2 ^ 8 → binary 8 (bit_or (a * 2 ^ o % 2 ^ 8) (b / 2 ^ (8 - o))) ≡ take 8 (drop (i * 8 + o) (octet_bits os))
+pub octet_across : (os : List ℕ) (i o a b : ℕ) → o ≤ 8 → i + 1 < length os → a ≡ get_or os i a → b ≡ get_or os (i + 1) b → b < 2 ^ 8 →
+    binary 8 (bit_or (a * 2 ^ o % 2 ^ 8) (b / 2 ^ (8 - o))) ≡ take 8 (drop (i * 8 + o) (octet_bits os))
 octet_across os i o a b h n p q small =
     let B : List Bool = octet_bits os in
     let past : ℕ = 8 - o in
@@ -46,7 +48,9 @@ octet_across os i o a b h n p q small =
     ∙ ap (λ k. take k (drop (i * 8 + o) B)) all
 
 -- .. and those of several octets
-pub octets_across : (k : ℕ) (os : List ℕ) (i o e b : ℕ) → 0 < k → o ≤ 8 → i + k < length os → binary (k * 8) e ≡ take (k * 8) (drop (i * 8) (octet_bits os)) → b ≡ get_or os (i + k) b → b < 2 ^ 8 → binary (k * 8) (bit_or (e * 2 ^ o % 2 ^ (k * 8)) (b / 2 ^ (8 - o))) ≡ take (k * 8) (drop (i * 8 + o) (octet_bits os))
+pub octets_across : (k : ℕ) (os : List ℕ) (i o e b : ℕ) → 0 < k → o ≤ 8 → i + k < length os →
+    binary (k * 8) e ≡ take (k * 8) (drop (i * 8) (octet_bits os)) → b ≡ get_or os (i + k) b → b < 2 ^ 8 →
+    binary (k * 8) (bit_or (e * 2 ^ o % 2 ^ (k * 8)) (b / 2 ^ (8 - o))) ≡ take (k * 8) (drop (i * 8 + o) (octet_bits os))
 octets_across k os i o e b some h n p q small =
     let B : List Bool = octet_bits os in
     let past : ℕ = k * 8 - o in
@@ -65,7 +69,9 @@ octets_across k os i o e b some h n p q small =
     ∙ ap (λ j. take j (drop (i * 8 + o) B)) all
 
 -- several octets more are copied
-pub octets_more : (k : ℕ) (os ts now : List ℕ) (i o y : ℕ) → octet_bits (take i ts) ≡ take (i * 8) (drop o (octet_bits os)) → binary (k * 8) y ≡ take (k * 8) (drop (i * 8 + o) (octet_bits os)) → take (i + k) now ≡ take i ts ++ bytes_high_first k y → octet_bits (take (i + k) now) ≡ take ((i + k) * 8) (drop o (octet_bits os))
+pub octets_more : (k : ℕ) (os ts now : List ℕ) (i o y : ℕ) → octet_bits (take i ts) ≡ take (i * 8) (drop o (octet_bits os)) →
+    binary (k * 8) y ≡ take (k * 8) (drop (i * 8 + o) (octet_bits os)) → take (i + k) now ≡ take i ts ++ bytes_high_first k y →
+    octet_bits (take (i + k) now) ≡ take ((i + k) * 8) (drop o (octet_bits os))
 octets_more k os ts now i o y e b t =
     let B : List Bool = octet_bits os in
     let next : drop (i * 8 + o) B ≡ drop (i * 8) (drop o B) = ap (λ j. drop j B) (omega arith) ∙ sym (drop-drop (i * 8) o B) in
@@ -74,7 +80,8 @@ octets_more k os ts now i o y e b t =
     ∙ sym (take_two (i * 8) (k * 8) (drop o B)) ∙ ap (λ j. take j (drop o B)) (omega arith)
 
 -- one octet more is copied
-pub shifted_more : (os ts : List ℕ) (i o y : ℕ) → i < length ts → octet_bits (take i ts) ≡ take (i * 8) (drop o (octet_bits os)) → binary 8 y ≡ take 8 (drop (i * 8 + o) (octet_bits os)) → octet_bits (take (i + 1) (set ts i y)) ≡ take ((i + 1) * 8) (drop o (octet_bits os))
+pub shifted_more : (os ts : List ℕ) (i o y : ℕ) → i < length ts → octet_bits (take i ts) ≡ take (i * 8) (drop o (octet_bits os)) →
+    binary 8 y ≡ take 8 (drop (i * 8 + o) (octet_bits os)) → octet_bits (take (i + 1) (set ts i y)) ≡ take ((i + 1) * 8) (drop o (octet_bits os))
 shifted_more os ts i o y h e b =
     let B : List Bool = octet_bits os in
     let next : drop (i * 8 + o) B ≡ drop (i * 8) (drop o B) = ap (λ k. drop k B) (omega arith) ∙ sym (drop-drop (i * 8) o B) in
@@ -88,7 +95,8 @@ whole_front os first len s n e h l =
     octets_at os s n l ∙ ap (λ k. take (n * 8) (drop k (octet_bits os))) (sym e) ∙ sym (take-take (n * 8) len (drop first (octet_bits os)) h)
 
 -- .. and those that begin within an octet
-pub shifted_front : (os : List ℕ) (first len s o n : ℕ) → first ≡ s * 8 + o → o < 8 → n * 8 ≤ len → s + (n + 1) ≤ length os → take (n * 8) (drop o (octet_bits (take (n + 1) (drop s os)))) ≡ take (n * 8) (take len (drop first (octet_bits os)))
+pub shifted_front : (os : List ℕ) (first len s o n : ℕ) → first ≡ s * 8 + o → o < 8 → n * 8 ≤ len → s + (n + 1) ≤ length os →
+    take (n * 8) (drop o (octet_bits (take (n + 1) (drop s os)))) ≡ take (n * 8) (take len (drop first (octet_bits os)))
 shifted_front os first len s o n e b h l =
     let B : List Bool = octet_bits os in
     let left : ℕ = (n + 1) * 8 - o in

@@ -63,7 +63,8 @@ window_behind bits rest w v c k e h s n =
     }
 
 -- a window of the first bits alone
-pub window_front : (bits front : List Bool) (w v : BitWindow) (c : ℕ) → IsWindowOf bits w → front ≡ take c bits → c ≤ length bits → v.width ≡ min c w.width → shown v ≡ take v.width (shown w) → IsWindowOf front v
+pub window_front : (bits front : List Bool) (w v : BitWindow) (c : ℕ) → IsWindowOf bits w → front ≡ take c bits → c ≤ length bits →
+    v.width ≡ min c w.width → shown v ≡ take v.width (shown w) → IsWindowOf front v
 window_front bits front w v c k e h n s =
     let long : length front ≡ c = ap length e ∙ length-take-le c bits h in
     record {

@@ -17,7 +17,8 @@ pub octets_at : (os : List ℕ) (start count : ℕ) → start + count ≤ length
 octets_at os start count h = octet_bits-take count (drop start os) (omega (arith, length-drop start os)) ∙ ap (take (count * 8)) (octet_bits-drop start os (omega arith))
 
 -- whole octets and the bits after them
-pub whole_and_rest : (os : List ℕ) (first len start count : ℕ) → first + len ≤ length os * 8 → first ≡ start * 8 → count ≡ len / 8 → octet_bits (take count (drop start os)) ++ take (len % 8) (drop (first + count * 8) (octet_bits os)) ≡ take len (drop first (octet_bits os))
+pub whole_and_rest : (os : List ℕ) (first len start count : ℕ) → first + len ≤ length os * 8 → first ≡ start * 8 → count ≡ len / 8 →
+    octet_bits (take count (drop start os)) ++ take (len % 8) (drop (first + count * 8) (octet_bits os)) ≡ take len (drop first (octet_bits os))
 whole_and_rest os first len start count h s n =
     let B : List Bool = octet_bits os in
     let all : count * 8 + len % 8 ≡ len = omega arith in
@@ -27,7 +28,8 @@ whole_and_rest os first len start count h s n =
     ∙ ap (λ k. take k (drop first B)) all
 
 -- the octets that hold bits
-pub held : (os : List ℕ) (first len start count : ℕ) → first + len ≤ length os * 8 → first ≡ start * 8 → count ≡ len / 8 + (len % 8 + 7) / 8 → take len (octet_bits (take count (drop start os))) ≡ take len (drop first (octet_bits os))
+pub held : (os : List ℕ) (first len start count : ℕ) → first + len ≤ length os * 8 → first ≡ start * 8 → count ≡ len / 8 + (len % 8 + 7) / 8 →
+    take len (octet_bits (take count (drop start os))) ≡ take len (drop first (octet_bits os))
 held os first len start count h s n =
     ap (take len) (octets_at os start count (omega arith)) ∙ take-take len (count * 8) (drop (start * 8) (octet_bits os)) (omega arith)
     ∙ ap (λ k. take len (drop k (octet_bits os))) (sym s)
@@ -37,7 +39,8 @@ abbrev pub to_come : ℕ → List Bool → List Bool
 to_come octets rest = rest ++ replicate (octets * 8 - length rest) false
 
 -- the next octet of them
-pub next_octet : (octets few v : ℕ) (rest : List Bool) → length rest ≤ suc octets * 8 → few ≡ min (length rest) 8 → binary few v ≡ take few rest → binary 8 (v * 2 ^ (8 - few)) ++ to_come octets (drop few rest) ≡ to_come (suc octets) rest
+pub next_octet : (octets few v : ℕ) (rest : List Bool) → length rest ≤ suc octets * 8 → few ≡ min (length rest) 8 → binary few v ≡ take few rest →
+    binary 8 (v * 2 ^ (8 - few)) ++ to_come octets (drop few rest) ≡ to_come (suc octets) rest
 next_octet octets few v rest h n e =
     let eight : few + (8 - few) ≡ 8 = omega arith in
     let zeros : List Bool = replicate (octets * 8 - length (drop few rest)) false in
@@ -62,7 +65,8 @@ next_octet octets few v rest h n e =
     ]
 
 -- nothing more to come
-pub came : (octets : List ℕ) (rest bits : List Bool) (n : ℕ) → length octets ≡ n → length bits ≡ n → octet_bits (take n octets) ++ to_come (n - n) rest ≡ to_come n bits → take n (octet_bits octets) ≡ bits
+pub came : (octets : List ℕ) (rest bits : List Bool) (n : ℕ) → length octets ≡ n → length bits ≡ n →
+    octet_bits (take n octets) ++ to_come (n - n) rest ≡ to_come n bits → take n (octet_bits octets) ≡ bits
 came octets rest bits n l b e =
     let all : take n octets ≡ octets = take_all n octets (omega arith) in
     let long : n ≤ length (octet_bits octets) = omega (arith, length-octet_bits octets) in
@@ -70,11 +74,14 @@ came octets rest bits n l b e =
     ∙ take_at bits (replicate (n * 8 - length bits) false) n b
 
 -- one octet more is made
-pub octet_made : (octets : List ℕ) (i n few v y : ℕ) (rest all : List Bool) → i < n → length octets ≡ n → length rest ≤ (n - i) * 8 → few ≡ min (length rest) 8 → binary few v ≡ take few rest → y ≡ v * 2 ^ (8 - few) → octet_bits (take i octets) ++ to_come (n - i) rest ≡ all → octet_bits (take (i + 1) (set octets i y)) ++ to_come (n - (i + 1)) (drop few rest) ≡ all
+pub octet_made : (octets : List ℕ) (i n few v y : ℕ) (rest all : List Bool) → i < n → length octets ≡ n → length rest ≤ (n - i) * 8 →
+    few ≡ min (length rest) 8 → binary few v ≡ take few rest → y ≡ v * 2 ^ (8 - few) → octet_bits (take i octets) ++ to_come (n - i) rest ≡ all →
+    octet_bits (take (i + 1) (set octets i y)) ++ to_come (n - (i + 1)) (drop few rest) ≡ all
 octet_made octets i n few v y rest all h l r f b e m =
     let left : suc (n - (i + 1)) ≡ n - i = omega arith in
     ap (λ o. octet_bits o ++ to_come (n - (i + 1)) (drop few rest)) (take_more_set octets i y (omega arith))
     ∙ ap (λ o. o ++ to_come (n - (i + 1)) (drop few rest)) (octet_bits_push (take i octets) y)
     ∙ append_assoc (octet_bits (take i octets)) (binary 8 y) (to_come (n - (i + 1)) (drop few rest))
-    ∙ ap (λ o. octet_bits (take i octets) ++ o) (ap (λ z. binary 8 z ++ to_come (n - (i + 1)) (drop few rest)) e ∙ next_octet (n - (i + 1)) few v rest (omega arith) f b ∙ ap (λ k. to_come k rest) left)
+    ∙ ap (λ o. octet_bits (take i octets) ++ o) (ap (λ z. binary 8 z ++ to_come (n - (i + 1)) (drop few rest)) e ∙
+    next_octet (n - (i + 1)) few v rest (omega arith) f b ∙ ap (λ k. to_come k rest) left)
     ∙ m

@@ -1,5 +1,6 @@
 -- Numbers read of a few octets at once.
-use Rattle.std.proofs.Common.{◌≡◌, ℕ, suc, ◌+◌, ◌-◌, ◌*◌, ◌/◌, ◌%◌, ◌^◌, ◌<◌, ◌≤◌, Bool, List, [], ◌∷◌, ◌++◌, length, take, drop, get_or, refl, ap, sym, ◌∙◌, arith, bit_or, bit_and, Fits, w8, zero, lit<}
+use Rattle.std.proofs.Common.{◌≡◌, ℕ, suc, ◌+◌, ◌-◌, ◌*◌, ◌/◌, ◌%◌, ◌^◌, ◌<◌, ◌≤◌, Bool, List, [], ◌∷◌, ◌++◌, length}
+use Rattle.std.proofs.Common.{take, drop, get_or, refl, ap, sym, ◌∙◌, arith, bit_or, bit_and, Fits, w8, zero, lit<}
 use Rattle.std.specs.Int.{from_be_bytes, w64}
 use Rattle.std.proofs.lemmas.Nat.{be_bytes_8, pow_pos, or_shifted, and_mask, mod_below, shl_whole}
 use Rattle.std.proofs.lemmas.Nat.Bits.{ones_shr}
@@ -43,7 +44,8 @@ eight_small os s h (suc (suc (suc (suc (suc (suc (suc zero))))))) = (h (s + 7)).
 eight_small os s h (suc (suc (suc (suc (suc (suc (suc (suc i)))))))) = lit< tt
 
 -- the number of eight octets has their bits as its digits
-pub eight_read : (os : List ℕ) (s n : ℕ) → s + 8 ≤ length os → ((i : ℕ) → get_or (eight_from os s) i 0 < 256) → n ≡ from_be_bytes w64 (eight_from os s) → binary 64 n ≡ take 64 (drop (s * 8) (octet_bits os))
+pub eight_read : (os : List ℕ) (s n : ℕ) → s + 8 ≤ length os → ((i : ℕ) → get_or (eight_from os s) i 0 < 256) →
+    n ≡ from_be_bytes w64 (eight_from os s) → binary 64 n ≡ take 64 (drop (s * 8) (octet_bits os))
 eight_read os s n h small e =
     sym (high_first 8 n) ∙ ap octet_bits (be_bytes_8 (eight_from os s) n refl small e ∙ sym (eight_taken os s h)) ∙ octets_at os s 8 h
 
@@ -67,7 +69,8 @@ inside_read B p s o c past w n e all b =
     ∙ take-take c (w - o) (drop o (drop (s * 8) B)) (omega arith)
     ∙ ap (take c) (drop-drop o (s * 8) B ∙ ap (λ k. drop k B) (sym e))
 
-pub nine_read : (os : List ℕ) (p s o c f x : ℕ) → p ≡ s * 8 + o → o < 8 → c ≤ 64 → s + 9 ≤ length os → x < 2 ^ 8 → x ≡ get_or os (s + 8) x → binary 64 f ≡ take 64 (drop (s * 8) (octet_bits os)) → binary c ((f * 2 ^ 8 + x) / 2 ^ (72 - o - c)) ≡ take c (drop p (octet_bits os))
+pub nine_read : (os : List ℕ) (p s o c f x : ℕ) → p ≡ s * 8 + o → o < 8 → c ≤ 64 → s + 9 ≤ length os → x < 2 ^ 8 → x ≡ get_or os (s + 8) x →
+    binary 64 f ≡ take 64 (drop (s * 8) (octet_bits os)) → binary c ((f * 2 ^ 8 + x) / 2 ^ (72 - o - c)) ≡ take c (drop p (octet_bits os))
 nine_read os p s o c f x e h n l small r b =
     let B : List Bool = octet_bits os in
     let past : ℕ = 72 - o - c in
@@ -79,7 +82,8 @@ nine_read os p s o c f x e h n l small r b =
     inside_read B p s o c past 72 (f * 2 ^ 8 + x) e (omega arith) nine
 
 -- .. of the octets that hold the bits
-pub few_read : (os : List ℕ) (p s o c u past f : ℕ) → p ≡ s * 8 + o → o + (c + past) ≡ u * 8 → s + u ≤ length os → binary (u * 8) f ≡ octet_bits (take u (drop s os)) → binary c (f / 2 ^ past) ≡ take c (drop p (octet_bits os))
+pub few_read : (os : List ℕ) (p s o c u past f : ℕ) → p ≡ s * 8 + o → o + (c + past) ≡ u * 8 → s + u ≤ length os →
+    binary (u * 8) f ≡ octet_bits (take u (drop s os)) → binary c (f / 2 ^ past) ≡ take c (drop p (octet_bits os))
 few_read os p s o c u past f e all h b = inside_read (octet_bits os) p s o c past (u * 8) f e all (b ∙ octets_at os s u h)
 
 -- the low digits of a number, masked off

@@ -22,14 +22,17 @@ Stuck ss all i bits = (n : ℕ) (k : FieldFaultKind) → IsFirstUnread (drop i s
 abbrev pub Done : List FieldShape → List Bool → ℕ → List Bool → List FieldValue → Type 0
 Done ss all i bits values = (vs : List FieldValue) (rest : List Bool) → AreValuesOf (drop i ss) vs bits rest → AreValuesOf ss (values ++ vs) all rest
 
-pub unread_here : (ss : List FieldShape) (all bits : List Bool) (i : ℕ) (s : FieldShape) (rest : List FieldShape) (k : FieldFaultKind) → drop i ss ≡ s ∷ rest → Stuck ss all i bits → IsUnreadable s bits k → IsFirstUnread ss all i k
+pub unread_here : (ss : List FieldShape) (all bits : List Bool) (i : ℕ) (s : FieldShape) (rest : List FieldShape) (k : FieldFaultKind) →
+    drop i ss ≡ s ∷ rest → Stuck ss all i bits → IsUnreadable s bits k → IsFirstUnread ss all i k
 unread_here ss all bits i s rest k e stuck w =
     let P : ℕ → Type 0 = λ n. IsFirstUnread ss all n k in
     let Q : List FieldShape → Type 0 = λ l. IsFirstUnread l bits 0 k in
     let m : i + 0 ≡ i = omega arith in
     subst P m (stuck 0 k (subst Q (sym e) w))
 
-pub unread_later : (ss : List FieldShape) (all bits new : List Bool) (i : ℕ) (s : FieldShape) (rest : List FieldShape) (v : FieldValue) → drop i ss ≡ s ∷ rest → Stuck ss all i bits → IsValueOf s v (take (width_of s) bits) → new ≡ drop (width_of s) bits → (n : ℕ) (k : FieldFaultKind) → IsFirstUnread rest new n k → IsFirstUnread ss all (i + 1 + n) k
+pub unread_later : (ss : List FieldShape) (all bits new : List Bool) (i : ℕ) (s : FieldShape) (rest : List FieldShape) (v : FieldValue) →
+    drop i ss ≡ s ∷ rest → Stuck ss all i bits → IsValueOf s v (take (width_of s) bits) → new ≡ drop (width_of s) bits →
+    (n : ℕ) (k : FieldFaultKind) → IsFirstUnread rest new n k → IsFirstUnread ss all (i + 1 + n) k
 unread_later ss all bits new i s rest v e stuck h f n k w =
     let P : ℕ → Type 0 = λ m. IsFirstUnread ss all m k in
     let Q : List FieldShape → Type 0 = λ l. IsFirstUnread l bits (suc n) k in
@@ -37,7 +40,10 @@ unread_later ss all bits new i s rest v e stuck h f n k w =
     let m : i + suc n ≡ i + 1 + n = omega arith in
     subst P m (stuck (suc n) k (subst Q (sym e) ((v, h), subst R f w)))
 
-pub read_later : (ss : List FieldShape) (all bits new : List Bool) (i : ℕ) (s : FieldShape) (rest : List FieldShape) (v : FieldValue) (values items : List FieldValue) → drop i ss ≡ s ∷ rest → Done ss all i bits values → IsValueOf s v (take (width_of s) bits) → width_of s ≤ length bits → new ≡ drop (width_of s) bits → items ≡ values ++ v ∷ [] → (vs : List FieldValue) (left : List Bool) → AreValuesOf rest vs new left → AreValuesOf ss (items ++ vs) all left
+pub read_later : (ss : List FieldShape) (all bits new : List Bool) (i : ℕ) (s : FieldShape) (rest : List FieldShape) (v : FieldValue)
+    (values items : List FieldValue) → drop i ss ≡ s ∷ rest → Done ss all i bits values → IsValueOf s v (take (width_of s) bits) →
+    width_of s ≤ length bits → new ≡ drop (width_of s) bits → items ≡ values ++ v ∷ [] → (vs : List FieldValue) (left : List Bool) →
+    AreValuesOf rest vs new left → AreValuesOf ss (items ++ vs) all left
 read_later ss all bits new i s rest v values items e done h l f g vs left w =
     let P : List FieldValue → Type 0 = λ m. AreValuesOf ss m all left in
     let Q : List FieldShape → Type 0 = λ m. AreValuesOf m (v ∷ vs) bits left in

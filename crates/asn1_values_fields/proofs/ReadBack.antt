@@ -1,5 +1,7 @@
 -- What was written reads back.
-use Rattle.std.proofs.Common.{◌≡◌, ℕ, ℤ, zero, suc, ◌+◌, ◌*◌, ◌%◌, ◌^◌, ◌<◌, ◌≤◌, Bool, true, false, cond, ◌&&◌, leb, ltb, List, [], ◌∷◌, ◌++◌, length, map, take, drop, Option, Some, None, option_map, refl, ap, sym, ◌∙◌, append_assoc, length-append, arith, subst}
+use Rattle.std.proofs.Common.{◌≡◌, ℕ, ℤ, zero, suc, ◌+◌, ◌*◌, ◌%◌, ◌^◌, ◌<◌, ◌≤◌, Bool, true, false, cond, ◌&&◌, leb}
+use Rattle.std.proofs.Common.{ltb, List, [], ◌∷◌, ◌++◌, length, map, take, drop, Option, Some, None, option_map, refl}
+use Rattle.std.proofs.Common.{ap, sym, ◌∙◌, append_assoc, length-append, arith, subst}
 use Rattle.std.specs.List.{AllByRecursion}
 use Rattle.std.specs.List.Sorted.{IsStrictlyIncreasing}
 use Rattle.std.proofs.lemmas.Bool.{ltb-true, leb-true}
@@ -77,14 +79,16 @@ same_number m x n h l e =
 
 same_whole : (z y : ℤ) → signed_octets y ≡ signed_octets z → octet_bits (complement (signed_octets z) y) ≡ octet_bits (complement (signed_octets z) z) → y ≡ z
 same_whole z y h e =
-    let x : complement (signed_octets z) y ≡ complement (signed_octets z) z = same_octets (complement (signed_octets z) y) (complement (signed_octets z) z) (octets-complement (signed_octets z) y) (octets-complement (signed_octets z) z) e in
+    let x : complement (signed_octets z) y ≡ complement (signed_octets z) z =
+    same_octets (complement (signed_octets z) y) (complement (signed_octets z) z) (octets-complement (signed_octets z) y) (octets-complement (signed_octets z) z) e in
     let k : signed_octets_of y ≡ signed_octets_of z = ap (λ c. complement c y) h ∙ x in
     sym (signed-back y) ∙ ap signed_number k ∙ signed-back z
 
 -- ---- characters
 
 -- the code of a character of the alphabet
-code_there : (a : CodedCharacters) (c : ℕ) (front : List Bool) → option_map (λ code. binary a.code_bits code) (code_of a c) ≡ Some front → (k : ℕ) × (code_of a c ≡ Some k) × (front ≡ binary a.code_bits k)
+code_there : (a : CodedCharacters) (c : ℕ) (front : List Bool) → option_map (λ code. binary a.code_bits code) (code_of a c) ≡ Some front → (k : ℕ) ×
+    (code_of a c ≡ Some k) × (front ≡ binary a.code_bits k)
 code_there a c front e = go (code_of a c) refl e
   where
     go : (o : Option ℕ) → code_of a c ≡ o → option_map (λ code. binary a.code_bits code) o ≡ Some front → (k : ℕ) × (code_of a c ≡ Some k) × (front ≡ binary a.code_bits k)
@@ -98,7 +102,8 @@ length_codes a (c ∷ cs) w e =
     let k = code_there a c p.front p.is_front in
     ap length p.joined ∙ length-append p.front p.rest ∙ (omega (arith, ap length k.2, length-binary a.code_bits k.0, length_codes a cs p.rest p.is_rest))
 
-same_codes : (a : CodedCharacters) (cs ds : List ℕ) (w : List Bool) → IsStrictlyIncreasing a.characters → length a.characters ≤ 2 ^ a.code_bits → codes_of a cs ≡ Some w → codes_of a ds ≡ Some w → length ds ≡ length cs → ds ≡ cs
+same_codes : (a : CodedCharacters) (cs ds : List ℕ) (w : List Bool) → IsStrictlyIncreasing a.characters → length a.characters ≤ 2 ^ a.code_bits →
+    codes_of a cs ≡ Some w → codes_of a ds ≡ Some w → length ds ≡ length cs → ds ≡ cs
 same_codes a [] [] w s n e f h = refl
 same_codes a [] (d ∷ ds) w s n e f h = absurd (omega arith)
 same_codes a (c ∷ cs) [] w s n e f h = absurd (omega arith)
@@ -109,20 +114,23 @@ same_codes a (c ∷ cs) (d ∷ ds) w s n e f h =
     let l = code_there a d q.front q.is_front in
     let long : length q.front ≡ length p.front = ap length l.2 ∙ length-binary a.code_bits l.0 ∙ sym (ap length k.2 ∙ length-binary a.code_bits k.0) in
     let all : q.front ++ q.rest ≡ p.front ++ p.rest = sym q.joined ∙ p.joined in
-    let codes : l.0 ≡ k.0 = same_number a.code_bits l.0 k.0 (narrow a.characters a.code_bits d l.0 (ascends a.characters s) n l.1) (narrow a.characters a.code_bits c k.0 (ascends a.characters s) n k.1) (sym l.2 ∙ same_front q.front q.rest p.front p.rest long all ∙ k.2) in
+    let codes : l.0 ≡ k.0 = same_number a.code_bits l.0 k.0 (narrow a.characters a.code_bits d l.0 (ascends a.characters s) n l.1)
+    (narrow a.characters a.code_bits c k.0 (ascends a.characters s) n k.1) (sym l.2 ∙ same_front q.front q.rest p.front p.rest long all ∙ k.2) in
     let first : d ≡ c = same_code a.characters a.code_bits d c k.0 (l.1 ∙ ap Some codes) k.1 in
     let rest : ds ≡ cs = same_codes a cs ds p.rest s n p.is_rest (q.is_rest ∙ ap Some (same_back q.front q.rest p.front p.rest long all)) (omega arith) in
     ap (λ x. x ∷ ds) first ∙ ap (λ l. c ∷ l) rest
 
 -- each code of a character that was written is known
-unknown_code : (a : CodedCharacters) (cs : List ℕ) (w more : List Bool) → IsStrictlyIncreasing a.characters → length a.characters ≤ 2 ^ a.code_bits → codes_of a cs ≡ Some w → (place : ℕ) → place < length cs → IsUnknownCode a (take a.code_bits (drop (place * a.code_bits) (w ++ more))) → ⊥
+unknown_code : (a : CodedCharacters) (cs : List ℕ) (w more : List Bool) → IsStrictlyIncreasing a.characters → length a.characters ≤ 2 ^ a.code_bits →
+    codes_of a cs ≡ Some w → (place : ℕ) → place < length cs → IsUnknownCode a (take a.code_bits (drop (place * a.code_bits) (w ++ more))) → ⊥
 unknown_code a [] w more s n e place h u = absurd (omega arith)
 unknown_code a (c ∷ cs) w more s n e zero h u =
     let p = parts (option_map (λ code. binary a.code_bits code) (code_of a c)) (codes_of a cs) w e in
     let k = code_there a c p.front p.is_front in
     let z : zero * a.code_bits ≡ 0 = omega arith in
     let long : length p.front ≡ a.code_bits = ap length k.2 ∙ length-binary a.code_bits k.0 in
-    let seen : take a.code_bits (drop (zero * a.code_bits) (w ++ more)) ≡ p.front = ap (λ i. take a.code_bits (drop i (w ++ more))) z ∙ ap (λ l. take a.code_bits (l ++ more)) p.joined ∙ ap (take a.code_bits) (append_assoc p.front p.rest more) ∙ front_at p.front (p.rest ++ more) a.code_bits long in
+    let seen : take a.code_bits (drop (zero * a.code_bits) (w ++ more)) ≡ p.front = ap (λ i. take a.code_bits (drop i (w ++ more))) z ∙
+    ap (λ l. take a.code_bits (l ++ more)) p.joined ∙ ap (take a.code_bits) (append_assoc p.front p.rest more) ∙ front_at p.front (p.rest ++ more) a.code_bits long in
     let same : u.code ≡ k.0 = same_number a.code_bits u.code k.0 u.fits (narrow a.characters a.code_bits c k.0 (ascends a.characters s) n k.1) (sym u.digits ∙ seen ∙ k.2) in
     u.unknown c (k.1 ∙ ap Some (sym same))
 unknown_code a (c ∷ cs) w more s n e (suc place) h u =
@@ -132,7 +140,8 @@ unknown_code a (c ∷ cs) w more s n e (suc place) h u =
     let long : length p.front ≡ b = ap length k.2 ∙ length-binary b k.0 in
     let m : suc place * b ≡ b + place * b = omega arith in
     let behind : drop b (w ++ more) ≡ p.rest ++ more = ap (λ l. drop b (l ++ more)) p.joined ∙ ap (drop b) (append_assoc p.front p.rest more) ∙ back_at p.front (p.rest ++ more) b long in
-    let seen : take b (drop (suc place * b) (w ++ more)) ≡ take b (drop (place * b) (p.rest ++ more)) = ap (λ i. take b (drop i (w ++ more))) m ∙ ap (take b) (sym (drop-drop (place * b) b (w ++ more)) ∙ ap (drop (place * b)) behind) in
+    let seen : take b (drop (suc place * b) (w ++ more)) ≡ take b (drop (place * b) (p.rest ++ more)) = ap (λ i. take b (drop i (w ++ more))) m ∙
+    ap (take b) (sym (drop-drop (place * b) b (w ++ more)) ∙ ap (drop (place * b)) behind) in
     let P : List Bool → Type 0 = λ l. IsUnknownCode a l in
     unknown_code a cs p.rest more s n p.is_rest place (omega arith) (subst P seen u)
 
@@ -210,7 +219,8 @@ unreadable (Characters a cs) w more Memory h e r = refl
 
 -- ---- all fields
 
-pub read_back : (fs : List FieldBits) (vs : List FieldValue) (w behind left : List Bool) → AreFields fs → AreValues vs → bits_of_fields fs ≡ Some w → AreValuesOf (map shape_of fs) vs (w ++ behind) left → AreSame fs vs × (left ≡ behind)
+pub read_back : (fs : List FieldBits) (vs : List FieldValue) (w behind left : List Bool) → AreFields fs → AreValues vs → bits_of_fields fs ≡ Some w →
+    AreValuesOf (map shape_of fs) vs (w ++ behind) left → AreSame fs vs × (left ≡ behind)
 read_back [] [] w behind left h g e r = (tt, sym r ∙ ap (λ l. l ++ behind) (sym (some_of e)))
 read_back [] (v ∷ vs) w behind left h g e r = absurd r
 read_back (f ∷ fs) [] w behind left h g e r = absurd r
@@ -218,7 +228,8 @@ read_back (f ∷ fs) (v ∷ vs) w behind left h g e r =
     let p = parts (bits_of_field f) (bits_of_fields fs) w e in
     let whole : w ++ behind ≡ p.front ++ (p.rest ++ behind) = ap (λ l. l ++ behind) p.joined ∙ append_assoc p.front p.rest behind in
     let seen : take (width_of (shape_of f)) (w ++ behind) ≡ p.front = ap (take (width_of (shape_of f))) whole ∙ taken_front f p.front (p.rest ++ behind) p.is_front in
-    let after : drop (width_of (shape_of f)) (w ++ behind) ≡ p.rest ++ behind = ap (drop (width_of (shape_of f))) whole ∙ back_at p.front (p.rest ++ behind) (width_of (shape_of f)) (field_width f p.front p.is_front) in
+    let after : drop (width_of (shape_of f)) (w ++ behind) ≡ p.rest ++ behind = ap (drop (width_of (shape_of f))) whole ∙
+    back_at p.front (p.rest ++ behind) (width_of (shape_of f)) (field_width f p.front p.is_front) in
     let P : List Bool → Type 0 = λ l. IsValueOf (shape_of f) v l in
     let Q : List Bool → Type 0 = λ l. AreValuesOf (map shape_of fs) vs l left in
     let more = read_back fs vs p.rest behind left h.1 g.1 p.is_rest (subst Q after r.2) in
@@ -234,6 +245,7 @@ not_refused (f ∷ fs) w behind zero k h e r =
 not_refused (f ∷ fs) w behind (suc i) k h e r =
     let p = parts (bits_of_field f) (bits_of_fields fs) w e in
     let whole : w ++ behind ≡ p.front ++ (p.rest ++ behind) = ap (λ l. l ++ behind) p.joined ∙ append_assoc p.front p.rest behind in
-    let after : drop (width_of (shape_of f)) (w ++ behind) ≡ p.rest ++ behind = ap (drop (width_of (shape_of f))) whole ∙ back_at p.front (p.rest ++ behind) (width_of (shape_of f)) (field_width f p.front p.is_front) in
+    let after : drop (width_of (shape_of f)) (w ++ behind) ≡ p.rest ++ behind = ap (drop (width_of (shape_of f))) whole ∙
+    back_at p.front (p.rest ++ behind) (width_of (shape_of f)) (field_width f p.front p.is_front) in
     let P : List Bool → Type 0 = λ l. IsFirstUnread (map shape_of fs) l i k in
     not_refused fs p.rest behind i k h.1 p.is_rest (subst P after r.1)

@@ -1,5 +1,6 @@
 -- Octets read from bits, and the integers of which they are the shortest encoding.
-use Rattle.std.proofs.Common.{◌≡◌, ℕ, ℤ, zero, suc, ◌+◌, ◌*◌, ◌<◌, ◌≤◌, pos, negsuc, Bool, true, false, not, IsTrue, List, [], ◌∷◌, length, take, replicate, get_or, refl, ap, sym, ◌∙◌, arith, Fits, w8}
+use Rattle.std.proofs.Common.{◌≡◌, ℕ, ℤ, zero, suc, ◌+◌, ◌*◌, ◌<◌, ◌≤◌, pos, negsuc, Bool, true, false, not, IsTrue}
+use Rattle.std.proofs.Common.{List, [], ◌∷◌, length, take, replicate, get_or, refl, ap, sym, ◌∙◌, arith, Fits, w8}
 use Rattle.std.proofs.lemmas.List.{length-append, length-replicate, length-take-le}
 use Rattle.asn1_model.specs.Numbers.{octet_bits, packed, missing, complement, signed_octets}
 use Rattle.asn1_values_bits.specs.Octets.{padded}
@@ -18,7 +19,8 @@ pub octets_taken : (count : ℕ) (bits front : List Bool) (os items : List ℕ) 
 octets_taken count bits front os items f h e i =
     let l : length front ≡ count * 8 = ap length f ∙ length-take-le (count * 8) bits h in
     let m : missing (length front) ≡ 0 = ap missing l ∙ none_missing count in
-    let w : length (octet_bits os) ≡ length front + missing (length front) = ap length e ∙ length-append front (replicate (missing (length front)) false) ∙ ap (λ k. length front + k) (length-replicate (missing (length front)) false) in
+    let w : length (octet_bits os) ≡ length front + missing (length front) = ap length e ∙
+    length-append front (replicate (missing (length front)) false) ∙ ap (λ k. length front + k) (length-replicate (missing (length front)) false) in
     let o = length-octet_bits os in
     ap length i ∙ (omega arith)
 

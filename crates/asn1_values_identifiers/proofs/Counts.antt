@@ -1,5 +1,7 @@
 -- How many groups of seven bits numbers take, and the groups as octets and as bits.
-use Rattle.std.proofs.Common.{◌≡◌, ℕ, zero, suc, ◌+◌, ◌*◌, ◌/◌, ◌%◌, ◌^◌, ◌<◌, ◌≤◌, ltb, ◌&&◌, Bool, true, List, [], ◌∷◌, ◌++◌, map, flat_map, length, inl, inr, refl, ap, sym, subst, ◌∙◌, arith, length-append}
+use Rattle.std.proofs.Common.{◌≡◌, ℕ, zero, suc, ◌+◌, ◌*◌, ◌/◌, ◌%◌, ◌^◌, ◌<◌, ◌≤◌, ltb, ◌&&◌, Bool, true, List, []}
+use Rattle.std.proofs.Common.{◌∷◌, ◌++◌, map, flat_map, length, inl, inr, refl, ap, sym, subst, ◌∙◌, arith}
+use Rattle.std.proofs.Common.{length-append}
 use Rattle.std.proofs.lemmas.Bool.{cases_lt, lt-ltb, and_parts}
 use Rattle.std.proofs.lemmas.List.{append-nil}
 use Rattle.std.proofs.lemmas.Nat.{pow-add}
@@ -93,7 +95,8 @@ contents_octets first others = each_joined (groups_of_seven first) (flat_map gro
 pub leading_bits_one : (n : ℕ) → 0 < n → n < 128 → binary (8 * length (leading n)) (128 + n) ≡ octet_bits (leading n)
 leading_bits_one n p h = subst (λ (l : List ℕ). binary (8 * length l) (128 + n) ≡ octet_bits l) (sym (leading_one n p h)) (sym (append-nil (binary 8 (128 + n))))
 
-pub leading_bits_more : (n f : ℕ) → 128 ≤ n → binary (8 * length (leading (n / 128))) f ≡ octet_bits (leading (n / 128)) → binary (8 * length (leading n)) (f * 256 + 128 + n % 128) ≡ octet_bits (leading n)
+pub leading_bits_more : (n f : ℕ) → 128 ≤ n → binary (8 * length (leading (n / 128))) f ≡ octet_bits (leading (n / 128)) →
+    binary (8 * length (leading n)) (f * 256 + 128 + n % 128) ≡ octet_bits (leading n)
 leading_bits_more n f h b =
     let w : ℕ = 8 * length (leading (n / 128)) in
     let x : ℕ = 128 + n % 128 in
@@ -105,7 +108,8 @@ leading_bits_more n f h b =
 pub group_bits_one : (n : ℕ) → n < 128 → binary 8 n ≡ octet_bits (groups_of_seven n)
 group_bits_one n h = sym (append-nil (binary 8 n)) ∙ ap octet_bits (sym (groups_one n h))
 
-pub group_bits_more : (n f w : ℕ) → 128 ≤ n → w ≡ 8 * length (groups_of_seven n) → binary (8 * length (leading (n / 128))) f ≡ octet_bits (leading (n / 128)) → binary w (f * 256 + n % 128) ≡ octet_bits (groups_of_seven n)
+pub group_bits_more : (n f w : ℕ) → 128 ≤ n → w ≡ 8 * length (groups_of_seven n) → binary (8 * length (leading (n / 128))) f
+    ≡ octet_bits (leading (n / 128)) → binary w (f * 256 + n % 128) ≡ octet_bits (groups_of_seven n)
 group_bits_more n f w h e b =
     let v : ℕ = 8 * length (leading (n / 128)) in
     let x : ℕ = n % 128 in

@@ -1,5 +1,7 @@
 -- What is written reads back, and what is read was written.
-use Rattle.std.proofs.Common.{◌≡◌, ℕ, zero, suc, ◌+◌, ◌-◌, ◌*◌, ◌/◌, ◌%◌, ◌^◌, ◌<◌, ◌≤◌, ◌==◌, ltb, min, Bool, true, false, List, [], ◌∷◌, ◌++◌, flat_map, Option, Some, None, Result, Ok, Err, length, refl, ap, sym, ◌∙◌, arith, append_assoc, append-nil}
+use Rattle.std.proofs.Common.{◌≡◌, ℕ, zero, suc, ◌+◌, ◌-◌, ◌*◌, ◌/◌, ◌%◌, ◌^◌, ◌<◌, ◌≤◌, ◌==◌, ltb, min, Bool, true}
+use Rattle.std.proofs.Common.{false, List, [], ◌∷◌, ◌++◌, flat_map, Option, Some, None, Result, Ok, Err, length, refl}
+use Rattle.std.proofs.Common.{ap, sym, ◌∙◌, arith, append_assoc, append-nil}
 use Rattle.std.proofs.lemmas.Bool.{and_parts}
 use Rattle.asn1_model.specs.Strings.{groups_of_seven, is_octet}
 use Rattle.std.specs.List.{list_all}
@@ -160,7 +162,8 @@ joined_group n o p h =
     sym (groups_more (n * 128 + o) (omega arith) ∙ ap (λ m. leading m ++ ((n * 128 + o) % 128) ∷ []) q ∙ ap (λ m. leading n ++ m ∷ []) r)
 
 -- the octets so far and one more with bit 8 set are those of the larger number
-begun_more : (begun : Option ℕ) (o : ℕ) (os : List ℕ) → IsBegun begun → is_padding begun o ≡ false → 128 ≤ o → o < 256 → begun_octets begun ++ (o ∷ os) ≡ leading (begun_number begun * 128 + (o - 128)) ++ os
+begun_more : (begun : Option ℕ) (o : ℕ) (os : List ℕ) → IsBegun begun → is_padding begun o ≡ false → 128 ≤ o → o < 256 →
+    begun_octets begun ++ (o ∷ os) ≡ leading (begun_number begun * 128 + (o - 128)) ++ os
 begun_more None o os b p h k =
     let d : ¬ (o ≡ 128) = λ q. differ o 128 p q in
     let pos : 0 < 0 * 128 + (o - 128) = above_128 o h d in
@@ -178,7 +181,8 @@ begun_after : (begun : Option ℕ) (o : ℕ) → IsBegun begun → is_padding be
 begun_after None o b p h = let d : ¬ (o ≡ 128) = λ q. differ o 128 p q in above_128 o h d
 begun_after (Some n) o b p h = omega arith
 
-wrote_ended : (limit n : ℕ) (begun : Option ℕ) (os rest : List ℕ) (further : Result (List ℕ) IdentifierError) → begun_octets begun ++ os ≡ groups_of_seven n ++ rest → Wrote None rest further → Wrote begun os (ended limit n further)
+wrote_ended : (limit n : ℕ) (begun : Option ℕ) (os rest : List ℕ) (further : Result (List ℕ) IdentifierError) →
+    begun_octets begun ++ os ≡ groups_of_seven n ++ rest → Wrote None rest further → Wrote begun os (ended limit n further)
 wrote_ended limit n begun os rest further e w = go (ltb n limit) further w
   where
     go : (t : Bool) (r : Result (List ℕ) IdentifierError) → Wrote None rest r → Wrote begun os (judged n r t)
@@ -204,7 +208,8 @@ wrote limit None [] b h = refl
 wrote limit (Some n) [] b h = tt
 wrote limit begun (o ∷ os) b h = go (is_padding begun o) refl (ltb o 128) refl (wrote (2 ^ 32) None os tt ((and_parts _ _ h).1)) (λ n p. wrote limit (Some n) os p ((and_parts _ _ h).1))
   where
-    go : (t : Bool) → is_padding begun o ≡ t → (u : Bool) → ltb o 128 ≡ u → Wrote None os (subidentifiers (2 ^ 32) None os) → ((n : ℕ) → 0 < n → Wrote (Some n) os (subidentifiers limit (Some n) os)) → Wrote begun (o ∷ os) (after_octet limit begun o os t u)
+    go : (t : Bool) → is_padding begun o ≡ t → (u : Bool) → ltb o 128 ≡ u → Wrote None os (subidentifiers (2 ^ 32) None os) →
+        ((n : ℕ) → 0 < n → Wrote (Some n) os (subidentifiers limit (Some n) os)) → Wrote begun (o ∷ os) (after_octet limit begun o os t u)
     go true p u e w r = tt
     go false p true e w r = wrote_ended limit (begun_number begun * 128 + o) begun (o ∷ os) os _ (begun_ended begun o os b (below o 128 e)) w
     go false p false e w r =

@@ -1,5 +1,7 @@
 -- Whole identifiers: their octets and their arcs.
-use Rattle.std.proofs.Common.{◌≡◌, ℕ, zero, suc, ◌+◌, ◌-◌, ◌*◌, ◌/◌, ◌^◌, ◌<◌, ◌≤◌, ◌==◌, ltb, leb, ◌&&◌, ◌||◌, Bool, true, false, List, [], ◌∷◌, ◌++◌, flat_map, drop, Option, Some, None, Result, Ok, Err, length, slice_index_or, refl, ap, sym, ◌∙◌, arith, ◌⊎◌, inl, inr, subst, Fits, w8, w32}
+use Rattle.std.proofs.Common.{◌≡◌, ℕ, zero, suc, ◌+◌, ◌-◌, ◌*◌, ◌/◌, ◌^◌, ◌<◌, ◌≤◌, ◌==◌, ltb, leb, ◌&&◌, ◌||◌, Bool}
+use Rattle.std.proofs.Common.{true, false, List, [], ◌∷◌, ◌++◌, flat_map, drop, Option, Some, None, Result, Ok, Err}
+use Rattle.std.proofs.Common.{length, slice_index_or, refl, ap, sym, ◌∙◌, arith, ◌⊎◌, inl, inr, subst, Fits, w8, w32}
 use Rattle.std.proofs.lemmas.Bool.{and_parts}
 use Rattle.asn1_model.specs.Strings.{groups_of_seven, identifier_octets, is_identifier, is_octet}
 use Rattle.std.specs.List.{list_all}
@@ -50,7 +52,11 @@ is_first : (a b : ℕ) → (leb a 2 && (a == 2 || ltb b 40)) ≡ true → ((a �
 is_first a b h = grind arith
 
 first_back : (a b : ℕ) → (leb a 2 && (a == 2 || ltb b 40)) ≡ true → first_arc (40 * a + b) ≡ a
-first_back a b h = elim (is_first a b h) [ inl e ↦ first_large (40 * a + b) (omega arith) ∙ sym e | inr p ↦ let q : (40 * a + b) / 40 ≡ a = split_40 a b p.1 in first_small (40 * a + b) (small a b p.0 p.1) ∙ q ]
+first_back a b h = elim (is_first a b h) [
+  | inl e ↦ first_large (40 * a + b) (omega arith) ∙ sym e
+  | inr p ↦ let q : (40 * a + b) / 40 ≡ a =
+      split_40 a b p.1 in first_small (40 * a + b) (small a b p.0 p.1) ∙ q
+]
   where
     small : (a b : ℕ) → a < 2 → b < 40 → 40 * a + b < 80
     small a b h k = omega arith

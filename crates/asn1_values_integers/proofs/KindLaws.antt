@@ -4,7 +4,9 @@ use Rattle.std.proofs.lemmas.Bool.{cases_lt}
 use Rattle.std.proofs.lemmas.Bool.Decides.{nat_tests}
 use Rattle.std.proofs.Math.Nat.{pow-suc, mul-le-mul_right}
 use Rattle.asn1_model.specs.Numbers.{digits, width, signed_octets, octet_width, least_octets}
-use Rattle.asn1_values_natives.specs.Octets.{is_below_zero, is_negative, signed_from_plain, unsigned_number, signed_number, signed_by, sign_free, plain, is_padded, plain_octets, signed_octets_of, unsigned_octets_of}
+use Rattle.asn1_values_natives.specs.Octets.{is_below_zero, is_negative, signed_from_plain, unsigned_number}
+use Rattle.asn1_values_natives.specs.Octets.{signed_number, signed_by, sign_free, plain, is_padded, plain_octets}
+use Rattle.asn1_values_natives.specs.Octets.{signed_octets_of, unsigned_octets_of}
 use Rattle.asn1_values_integers.specs.Kinds.{AreFewest}
 use Rattle.asn1_values_natives.proofs.OctetLaws.{AreOctets, sign_free-false, unsigned-lt, signed-low, signed-high, digits-unsigned}
 use Rattle.asn1_values_natives.proofs.Widths.{Octets, octets-same, octet_width-octets, bits-same, width-bits}
@@ -49,7 +51,8 @@ bare_octets o os h n =
 -- octets that don't begin with zero are those that are written
 pub unsigned-written : (o : ℕ) (os : List ℕ) → AreOctets (o ∷ os) → 1 ≤ o → o ∷ os ≡ digits 256 (least_octets (unsigned_number (o ∷ os))) (unsigned_number (o ∷ os))
 unsigned-written o os h n =
-    let w : octet_width (unsigned_number (o ∷ os)) ≡ length (o ∷ os) = octets-same (unsigned_number (o ∷ os)) (octet_width (unsigned_number (o ∷ os))) (length (o ∷ os)) (octet_width-octets (unsigned_number (o ∷ os))) (bare_octets o os h n) in
+    let w : octet_width (unsigned_number (o ∷ os)) ≡ length (o ∷ os) =
+    octets-same (unsigned_number (o ∷ os)) (octet_width (unsigned_number (o ∷ os))) (length (o ∷ os)) (octet_width-octets (unsigned_number (o ∷ os))) (bare_octets o os h n) in
     let l : least_octets (unsigned_number (o ∷ os)) ≡ length (o ∷ os) = ap (max 1) w ∙ omega arith in
     sym (digits-unsigned (o ∷ os) h) ∙ ap (λ k. digits 256 k (unsigned_number (o ∷ os))) (sym l)
 
@@ -107,12 +110,14 @@ plain_cases os true e = signed-low 0 os (omega arith) ∙ ap pos (omega arith)
 plain_cases [] false e = refl
 plain_cases (o ∷ os) false e = signed-low o os (grind (arith, nat_tests))
 
-pub signed-from_plain : (os rest kept : List ℕ) → unsigned_number (map (sign_free false) rest) ≡ unsigned_number (map (sign_free false) os) → kept ≡ signed_from_plain rest → signed_number kept ≡ pos (unsigned_number os)
+pub signed-from_plain : (os rest kept : List ℕ) → unsigned_number (map (sign_free false) rest) ≡ unsigned_number (map (sign_free false) os) →
+    kept ≡ signed_from_plain rest → signed_number kept ≡ pos (unsigned_number os)
 signed-from_plain os rest kept e k =
     ap signed_number k ∙ plain_cases rest (is_negative rest) refl
     ∙ ap (λ l. pos (unsigned_number l)) (sym (sign_free-false rest)) ∙ ap pos e ∙ ap (λ l. pos (unsigned_number l)) (sign_free-false os)
 
-pub plain-from_plain : (os rest kept : List ℕ) → unsigned_number (map (sign_free false) rest) ≡ unsigned_number (map (sign_free false) os) → kept ≡ signed_from_plain rest → nat_lt (unsigned_number os) (2 ^ 128) ≡ false → 2 ^ 128 ≤ plain (signed_number kept)
+pub plain-from_plain : (os rest kept : List ℕ) → unsigned_number (map (sign_free false) rest) ≡ unsigned_number (map (sign_free false) os) →
+    kept ≡ signed_from_plain rest → nat_lt (unsigned_number os) (2 ^ 128) ≡ false → 2 ^ 128 ≤ plain (signed_number kept)
 plain-from_plain os rest kept e k f =
     let p : plain (signed_number kept) ≡ unsigned_number os = ap plain (signed-from_plain os rest kept e k) in
     let q : 2 ^ 128 ≤ unsigned_number os = grind (arith, nat_tests) in

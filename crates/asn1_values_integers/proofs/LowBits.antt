@@ -36,12 +36,14 @@ length-low (suc k) (o ∷ os) l = length-low k os (omega arith)
 by_sign : (b : Bool) (k : ℕ) (os : List ℕ) → AreOctets os → length os ≡ k + 16 → remainder (signed_by b (unsigned_number (map (sign_free b) os))) (2 ^ 128) ≡ unsigned_number (drop k os)
 by_sign false k os h l = ap (λ x. unsigned_number x % 2 ^ 128) (sign_free-false os) ∙ low k os h l
 by_sign true k os h l =
-    let t : unsigned_number (map (sign_free true) os) % 256 ^ 16 ≡ unsigned_number (map (sign_free true) (drop k os)) = low k (map (sign_free true) os) (octets-sign_free true os h) (length-sign_free true os ∙ l) ∙ ap unsigned_number (drop-turned true k os) in
+    let t : unsigned_number (map (sign_free true) os) % 256 ^ 16 ≡ unsigned_number (map (sign_free true) (drop k os)) =
+    low k (map (sign_free true) os) (octets-sign_free true os h) (length-sign_free true os ∙ l) ∙ ap unsigned_number (drop-turned true k os) in
     let u = unsigned-turned (drop k os) (octets-drop k os h) in
     let v : unsigned_number (map (sign_free true) (drop k os)) + unsigned_number (drop k os) + 1 ≡ 256 ^ 16 = u ∙ ap (λ n. 256 ^ n) (length-low k os l) in
     ap (λ x. 2 ^ 128 - 1 - x) t ∙ omega arith
 
-pub low-bits : (os : List ℕ) (n : ℕ) → ((i : ℕ) → Fits w8 (get_or os i 0)) → 16 < length os → n ≡ unsigned_number (map (sign_free false) (drop (length os - 16) os)) → n ≡ remainder (signed_number os) (2 ^ 128)
+pub low-bits : (os : List ℕ) (n : ℕ) → ((i : ℕ) → Fits w8 (get_or os i 0)) → 16 < length os →
+    n ≡ unsigned_number (map (sign_free false) (drop (length os - 16) os)) → n ≡ remainder (signed_number os) (2 ^ 128)
 low-bits os n h l e =
     let a = octets-all os h in
     e ∙ ap unsigned_number (sign_free-false (drop (length os - 16) os))

@@ -36,7 +36,8 @@ tails Equal a b p x y e h = let f : a * p ≡ b * p = ap (λ n. n * p) e in omeg
 tails Greater a b p x y e h = let f : a * p ≡ b * p = ap (λ n. n * p) e in omega arith
 
 -- lists of one length are ordered as their numbers
-slices : (ls rs : List ℕ) → AreOctets ls → AreOctets rs → length ls ≡ length rs → MatchOrdering (slice_cmp nat_cmp ls rs) (unsigned_number ls < unsigned_number rs) (unsigned_number ls ≡ unsigned_number rs) (unsigned_number rs < unsigned_number ls)
+slices : (ls rs : List ℕ) → AreOctets ls → AreOctets rs → length ls ≡ length rs →
+    MatchOrdering (slice_cmp nat_cmp ls rs) (unsigned_number ls < unsigned_number rs) (unsigned_number ls ≡ unsigned_number rs) (unsigned_number rs < unsigned_number ls)
 slices [] [] h k e = refl
 slices [] (b ∷ rs) h k e = absurd (omega arith)
 slices (a ∷ ls) [] h k e = absurd (omega arith)
@@ -78,7 +79,8 @@ pub fewest-written : (os : List ℕ) → signed_octets_of (signed_number os) ≡
 fewest-written os e = record {
   octets = let P : List ℕ → Type 0 = AreOctets in subst P e (octets-complement (signed_octets (signed_number os)) (signed_number os));
   fewest = ap is_padded (sym e) ∙ written-fewest (signed_number os);
-  some = let l : length (signed_octets_of (signed_number os)) ≡ signed_octets (signed_number os) = length-complement (signed_octets (signed_number os)) (signed_number os) in let m = ap length e in let p = signed_octets-plain (signed_number os) in omega arith;
+  some = let l : length (signed_octets_of (signed_number os)) ≡ signed_octets (signed_number os) =
+      length-complement (signed_octets (signed_number os)) (signed_number os) in let m = ap length e in let p = signed_octets-plain (signed_number os) in omega arith;
 }
 
 number_of : (os : List ℕ) (b : Bool) → AreOctets os → b ≡ is_negative os → signed_number os ≡ signed_by b (unsigned_number (map (sign_free b) os))
@@ -93,7 +95,8 @@ order-less ls rs h k e f = rw (number_of ls true h.octets e, number_of rs false 
 pub order-greater : (ls rs : List ℕ) → AreFewest ls → AreFewest rs → false ≡ is_negative ls → true ≡ is_negative rs → Greater ≡ int_cmp (signed_number ls) (signed_number rs)
 order-greater ls rs h k e f = rw (number_of ls false h.octets e, number_of rs true k.octets f) refl
 
-pub order-positive : (ls rs : List ℕ) → AreFewest ls → AreFewest rs → false ≡ is_negative ls → false ≡ is_negative rs → ordering_then (nat_cmp (length ls) (length rs)) (slice_cmp nat_cmp ls rs) ≡ int_cmp (signed_number ls) (signed_number rs)
+pub order-positive : (ls rs : List ℕ) → AreFewest ls → AreFewest rs → false ≡ is_negative ls → false ≡ is_negative rs →
+    ordering_then (nat_cmp (length ls) (length rs)) (slice_cmp nat_cmp ls rs) ≡ int_cmp (signed_number ls) (signed_number rs)
 order-positive ls rs h k e f =
     let p : plain (signed_number ls) ≡ unsigned_number ls = plain_of ls false h.octets e ∙ ap unsigned_number (sign_free-false ls) in
     let q : plain (signed_number rs) ≡ unsigned_number rs = plain_of rs false k.octets f ∙ ap unsigned_number (sign_free-false rs) in
@@ -104,7 +107,8 @@ order-positive ls rs h k e f =
     (λ c. let l = longer rs ls k.octets h.octets h.fewest k.some c in omega arith)
     (slices ls rs h.octets k.octets)))
 
-pub order-negative : (ls rs : List ℕ) → AreFewest ls → AreFewest rs → true ≡ is_negative ls → true ≡ is_negative rs → ordering_then (nat_cmp (length rs) (length ls)) (slice_cmp nat_cmp ls rs) ≡ int_cmp (signed_number ls) (signed_number rs)
+pub order-negative : (ls rs : List ℕ) → AreFewest ls → AreFewest rs → true ≡ is_negative ls → true ≡ is_negative rs →
+    ordering_then (nat_cmp (length rs) (length ls)) (slice_cmp nat_cmp ls rs) ≡ int_cmp (signed_number ls) (signed_number rs)
 order-negative ls rs h k e f =
     let p = plain_of ls true h.octets e in
     let q = plain_of rs true k.octets f in
@@ -115,7 +119,8 @@ order-negative ls rs h k e f =
     (after _ _ _ _ _ _ (nat_cmp (length rs) (length ls)) (slice_cmp nat_cmp ls rs) (ranked (length rs) (length ls) (nat_cmp (length rs) (length ls)) refl)
     (λ c. let l = longer rs ls k.octets h.octets h.fewest k.some c in omega arith)
     (λ c. let l = longer ls rs h.octets k.octets k.fewest h.some c in omega arith)
-    (λ c. turned (slice_cmp nat_cmp ls rs) (unsigned_number ls) (unsigned_number rs) (unsigned_number (map (sign_free true) ls)) (unsigned_number (map (sign_free true) rs)) (256 ^ length ls) s (t ∙ ap (λ j. 256 ^ j) c) (slices ls rs h.octets k.octets (sym c)))))
+    (λ c. turned (slice_cmp nat_cmp ls rs) (unsigned_number ls) (unsigned_number rs) (unsigned_number (map (sign_free true) ls))
+    (unsigned_number (map (sign_free true) rs)) (256 ^ length ls) s (t ∙ ap (λ j. 256 ^ j) c) (slices ls rs h.octets k.octets (sym c)))))
 
 -- the number of what is written, written again
 pub written-again : (z : ℤ) (os : List ℕ) → os ≡ signed_octets_of z → signed_octets_of (signed_number os) ≡ os

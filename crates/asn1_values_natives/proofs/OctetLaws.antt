@@ -1,5 +1,7 @@
 -- Laws of octets as numbers.
-use Rattle.std.proofs.Common.{◌≡◌, ℕ, zero, suc, ◌+◌, ◌-◌, ◌*◌, ◌/◌, ◌%◌, ◌^◌, ◌<◌, ◌≤◌, ◌==◌, Bool, true, false, ◌&&◌, ◌||◌, List, [], ◌∷◌, ◌++◌, length, map, take, drop, set, get_or, pos, negsuc, ◌-ℤ◌, ◌⊎◌, inl, inr, leb, ltb, refl, ap, sym, ◌∙◌, arith}
+use Rattle.std.proofs.Common.{◌≡◌, ℕ, zero, suc, ◌+◌, ◌-◌, ◌*◌, ◌/◌, ◌%◌, ◌^◌, ◌<◌, ◌≤◌, ◌==◌, Bool, true, false, ◌&&◌}
+use Rattle.std.proofs.Common.{◌||◌, List, [], ◌∷◌, ◌++◌, length, map, take, drop, set, get_or, pos, negsuc, ◌-ℤ◌, ◌⊎◌}
+use Rattle.std.proofs.Common.{inl, inr, leb, ltb, refl, ap, sym, ◌∙◌, arith}
 use Rattle.std.specs.List.{AllByRecursion}
 use Rattle.std.proofs.Math.Nat.{pow-suc, pow-le-pow_right, mod-eq_of_lt, div-div-eq-div-mul}
 use Rattle.std.proofs.Math.Arith.{mod-mul}
@@ -162,15 +164,18 @@ room i n h l = let p : 256 ^ i ≤ 256 ^ 15 = pow-le-pow_right (omega arith) {i 
 pub octet_room : (i n d : ℕ) → n < 256 ^ i → d < 256 → n * 256 + d < 256 ^ (i + 1)
 octet_room i n d l h = let e : 256 ^ (i + 1) ≡ 256 ^ i * 256 = ap (λ k. 256 ^ k) (omega arith) ∙ pow-suc 256 i in omega arith
 
-pub unsigned-more : (b : Bool) (os : List ℕ) (i n : ℕ) → i < length os → n ≡ unsigned_number (map (sign_free b) (take i os)) → n * 256 + sign_free b (get_or os i 0) ≡ unsigned_number (map (sign_free b) (take (i + 1) os))
+pub unsigned-more : (b : Bool) (os : List ℕ) (i n : ℕ) → i < length os → n ≡ unsigned_number (map (sign_free b) (take i os)) →
+    n * 256 + sign_free b (get_or os i 0) ≡ unsigned_number (map (sign_free b) (take (i + 1) os))
 unsigned-more b os i n h e =
     let t : take (i + 1) os ≡ take i os ++ get_or os i 0 ∷ [] = take_more os i 0 h in
-    let m : map (sign_free b) (take (i + 1) os) ≡ map (sign_free b) (take i os) ++ sign_free b (get_or os i 0) ∷ [] = ap (map (sign_free b)) t ∙ map-append (sign_free b) (take i os) (get_or os i 0 ∷ []) in
+    let m : map (sign_free b) (take (i + 1) os) ≡ map (sign_free b) (take i os) ++ sign_free b (get_or os i 0) ∷ [] = ap (map (sign_free b)) t ∙
+    map-append (sign_free b) (take i os) (get_or os i 0 ∷ []) in
     rw (m, unsigned-push (map (sign_free b) (take i os)) (sign_free b (get_or os i 0)), e) refl
 
 -- ---- writing octets from the last one on
 
-pub digit-more : (b : Bool) (octets : List ℕ) (i n d : ℕ) → i < 17 → length octets ≡ 17 → drop (17 - i) octets ≡ map (sign_free b) (digits 256 i n) → d ≡ sign_free b (n / 256 ^ i % 256) → drop (17 - (i + 1)) (set octets (16 - i) d) ≡ map (sign_free b) (digits 256 (i + 1) n)
+pub digit-more : (b : Bool) (octets : List ℕ) (i n d : ℕ) → i < 17 → length octets ≡ 17 → drop (17 - i) octets ≡ map (sign_free b) (digits 256 i n) →
+    d ≡ sign_free b (n / 256 ^ i % 256) → drop (17 - (i + 1)) (set octets (16 - i) d) ≡ map (sign_free b) (digits 256 (i + 1) n)
 digit-more b octets i n d h l e f =
     let s : drop (16 - i) (set octets (16 - i) d) ≡ d ∷ drop (16 - i + 1) octets = drop-set octets (16 - i) d (omega arith) in
     let p : 17 - (i + 1) ≡ 16 - i = omega arith in

@@ -26,7 +26,8 @@ large n e = grind (arith, nat_tests)
 -- a number of more bits is outside the range of each native type
 pub outside : (s : Bool) (g : ℕ) (z : ℤ) → g < 2 ^ 128 → nat_lt (plain z) (2 ^ 128) ≡ false → is_within (range_of s g) z ≡ false
 outside true g (pos n) h e = let l = large n e in not_at_most (pos n) (pos g) (omega (arith, ints))
-outside true g (negsuc n) h e = let l = large n e in let f : is_at_most (negsuc g) (negsuc n) ≡ false = not_at_most (negsuc g) (negsuc n) (omega (arith, ints)) in ap (λ b. b && is_at_most (negsuc n) (pos g)) f
+outside true g (negsuc n) h e = let l = large n e in let f : is_at_most (negsuc g) (negsuc n) ≡ false =
+    not_at_most (negsuc g) (negsuc n) (omega (arith, ints)) in ap (λ b. b && is_at_most (negsuc n) (pos g)) f
 outside false g (pos n) h e = let l = large n e in not_at_most (pos n) (pos g) (omega (arith, ints))
 outside false g (negsuc n) h e = ap (λ b. b && is_at_most (negsuc n) (pos g)) (not_at_most (pos 0) (negsuc n) (omega (arith, ints)))
 

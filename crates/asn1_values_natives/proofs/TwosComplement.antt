@@ -1,12 +1,17 @@
 -- Two's complement, and its fewest octets.
-use Rattle.std.proofs.Common.{◌≡◌, ℕ, zero, suc, ◌+◌, ◌-◌, ◌*◌, ◌/◌, ◌%◌, ◌^◌, ◌<◌, ◌≤◌, ◌==◌, Bool, true, false, ◌&&◌, ◌||◌, List, [], ◌∷◌, length, map, ℤ, pos, negsuc, ◌⊎◌, inl, inr, leb, ltb, nat_lt, get_or, Fits, w8, max, subst, refl, ap, sym, ◌∙◌, arith}
+use Rattle.std.proofs.Common.{◌≡◌, ℕ, zero, suc, ◌+◌, ◌-◌, ◌*◌, ◌/◌, ◌%◌, ◌^◌, ◌<◌, ◌≤◌, ◌==◌, Bool, true, false, ◌&&◌}
+use Rattle.std.proofs.Common.{◌||◌, List, [], ◌∷◌, length, map, ℤ, pos, negsuc, ◌⊎◌, inl, inr, leb, ltb, nat_lt, get_or}
+use Rattle.std.proofs.Common.{Fits, w8, max, subst, refl, ap, sym, ◌∙◌, arith}
 use Rattle.std.proofs.Math.Nat.{pow-suc, pow-le-pow_right, mul-le-mul_right}
 use Rattle.std.proofs.lemmas.Bool.{cases_lt}
 use Rattle.std.proofs.lemmas.Bool.Decides.{nat_tests}
 use Rattle.std.proofs.lemmas.Nat.{mul-add-lt, pow-add, div_below}
 use Rattle.asn1_model.specs.Numbers.{digits, complement, signed_octets, width, octet_width}
 use Rattle.asn1_values_natives.specs.Octets.{unsigned_number, signed_number, is_padded, sign_free, signed_by, plain, is_leading, is_negative, signed_octets_of, unsigned_octets_of}
-use Rattle.asn1_values_natives.proofs.OctetLaws.{AreOctets, pow_pos256, unsigned-lt, unsigned-turned, signed-low, signed-high, sign_free-twice, sign_free-false, signed-padded, octets-sign_free, length-sign_free, digits-unsigned, digits-turned, length-digits, octets-digits, unsigned-digits}
+use Rattle.asn1_values_natives.proofs.OctetLaws.{AreOctets, pow_pos256, unsigned-lt, unsigned-turned, signed-low}
+use Rattle.asn1_values_natives.proofs.OctetLaws.{signed-high, sign_free-twice, sign_free-false, signed-padded}
+use Rattle.asn1_values_natives.proofs.OctetLaws.{octets-sign_free, length-sign_free, digits-unsigned, digits-turned}
+use Rattle.asn1_values_natives.proofs.OctetLaws.{length-digits, octets-digits, unsigned-digits}
 use Rattle.asn1_values_natives.proofs.Widths.{pow256, width-bits, octet_width-width, signed_octets-plain, signed_octets-le, signed_octets-above}
 
 -- half of it
@@ -26,7 +31,8 @@ plain-small o os h = at_cases (cases_lt o 128)
         let l = length-sign_free true os in
         let u : unsigned_number (map (sign_free true) os) < 256 ^ length (map (sign_free true) os) = unsigned-lt (map (sign_free true) os) (octets-sign_free true os h.1) in
         let p : 255 - o < 128 = omega arith in
-        let m : (255 - o) * 256 ^ length (map (sign_free true) os) + unsigned_number (map (sign_free true) os) < 256 ^ length (map (sign_free true) os) * 128 = mul-add-lt (255 - o) (256 ^ length (map (sign_free true) os)) (unsigned_number (map (sign_free true) os)) 128 p u in
+        let m : (255 - o) * 256 ^ length (map (sign_free true) os) + unsigned_number (map (sign_free true) os) <
+        256 ^ length (map (sign_free true) os) * 128 = mul-add-lt (255 - o) (256 ^ length (map (sign_free true) os)) (unsigned_number (map (sign_free true) os)) 128 p u in
         let q = rw l at m in
         rw (signed-high o os c h, l) (omega (arith, q))
 
@@ -124,10 +130,12 @@ octets-all [] h = tt
 octets-all (o ∷ os) h = ((h 0).fits, octets-all os (λ i. h (suc i)))
 
 -- the number by the octets of its magnitude
-pub signed-read : (os rest : List ℕ) (b : Bool) → ((i : ℕ) → Fits w8 (get_or os i 0)) → b ≡ is_negative os → unsigned_number (map (sign_free b) rest) ≡ unsigned_number (map (sign_free b) os) → signed_by b (unsigned_number (map (sign_free b) rest)) ≡ signed_number os
+pub signed-read : (os rest : List ℕ) (b : Bool) → ((i : ℕ) → Fits w8 (get_or os i 0)) → b ≡ is_negative os →
+    unsigned_number (map (sign_free b) rest) ≡ unsigned_number (map (sign_free b) os) → signed_by b (unsigned_number (map (sign_free b) rest)) ≡ signed_number os
 signed-read os rest b h n e = ap (signed_by b) e ∙ ap (λ c. signed_by c (unsigned_number (map (sign_free c) os))) n ∙ sym (signed-parts os (octets-all os h))
 
-pub plain-read : (os rest : List ℕ) (b : Bool) → ((i : ℕ) → Fits w8 (get_or os i 0)) → b ≡ is_negative os → unsigned_number (map (sign_free b) rest) ≡ unsigned_number (map (sign_free b) os) → unsigned_number (map (sign_free b) rest) ≡ plain (signed_number os)
+pub plain-read : (os rest : List ℕ) (b : Bool) → ((i : ℕ) → Fits w8 (get_or os i 0)) → b ≡ is_negative os →
+    unsigned_number (map (sign_free b) rest) ≡ unsigned_number (map (sign_free b) os) → unsigned_number (map (sign_free b) rest) ≡ plain (signed_number os)
 plain-read os rest b h n e = sym (plain-signed_by b (unsigned_number (map (sign_free b) rest))) ∙ ap plain (signed-read os rest b h n e)
 
 pub under : (n : ℕ) → n < 2 ^ 128 → true ≡ nat_lt n (2 ^ 128)

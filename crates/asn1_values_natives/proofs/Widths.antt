@@ -20,7 +20,8 @@ bits_up_to : (f n : ℕ) → n ≤ f → Bits n (places_up_to f 2 n)
 unfolding places_up_to
 bits_up_to zero n h = record { below = omega arith; above = λ e. omega arith }
 bits_up_to (suc f) zero h = record { below = omega arith; above = λ e. omega arith }
-bits_up_to (suc f) (suc n) h = let e : (suc n == 0) ≡ false = grind (arith, nat_tests) in rw (e, places_up_to) (halved (suc n) (places_up_to f 2 (suc n / 2)) (omega arith) (bits_up_to f (suc n / 2) (omega arith)))
+bits_up_to (suc f) (suc n) h = let e : (suc n == 0) ≡ false = grind (arith, nat_tests) in
+    rw (e, places_up_to) (halved (suc n) (places_up_to f 2 (suc n / 2)) (omega arith) (bits_up_to f (suc n / 2) (omega arith)))
 
 pub width-bits : (n : ℕ) → Bits n (width n)
 width-bits n = bits_up_to n n (omega arith)
@@ -81,7 +82,8 @@ octets_up_to : (f n : ℕ) → n ≤ f → Octets n (places_up_to f 256 n)
 unfolding places_up_to
 octets_up_to zero n h = record { below = omega arith; above = λ e. omega arith }
 octets_up_to (suc f) zero h = record { below = omega arith; above = λ e. omega arith }
-octets_up_to (suc f) (suc n) h = let e : (suc n == 0) ≡ false = grind (arith, nat_tests) in rw (e, places_up_to) (octets_step (suc n) (places_up_to f 256 (suc n / 256)) (omega arith) (octets_up_to f (suc n / 256) (omega arith)))
+octets_up_to (suc f) (suc n) h = let e : (suc n == 0) ≡ false = grind (arith, nat_tests) in
+    rw (e, places_up_to) (octets_step (suc n) (places_up_to f 256 (suc n / 256)) (omega arith) (octets_up_to f (suc n / 256) (omega arith)))
 
 octets-least_at : (n v w : ℕ) → Octets n w → n < 256 ^ v → v < w → w ≤ v
 octets-least_at n v w b h l =

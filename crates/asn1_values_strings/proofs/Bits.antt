@@ -32,6 +32,7 @@ of_error bs os (InvalidRestrictedString i) p h r = r
 of_error bs os (Memory m) p h r = h
 
 -- if bits are whole pairs of octets, an error means that memory ran out
-pub pairs_of_bits : {T : Type 0} (r : Result T PermittedAlphabetError) (P : T → Type 0) (bs : List Bool) (os : List ℕ) → octet_bits os ≡ padded bs → length bs % 16 ≡ 0 → IfOk r P → IfErr r (IsRefusalOfPairs os) → MatchResult r P (IsRefusalOfPairBits bs)
+pub pairs_of_bits : {T : Type 0} (r : Result T PermittedAlphabetError) (P : T → Type 0) (bs : List Bool) (os : List ℕ) → octet_bits os ≡ padded bs →
+    length bs % 16 ≡ 0 → IfOk r P → IfErr r (IsRefusalOfPairs os) → MatchResult r P (IsRefusalOfPairBits bs)
 pairs_of_bits (Ok x) P bs os p h made refused = made
 pairs_of_bits (Err e) P bs os p h made refused = of_error bs os e p h refused

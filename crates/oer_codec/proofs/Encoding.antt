@@ -1,5 +1,6 @@
 -- What an encoder holds after the records of a value.
-use Rattle.std.proofs.Common.{◌≡◌, ℕ, ◌<◌, ◌≤◌, ◌^◌, true, false, List, [], ◌∷◌, ◌++◌, length, take, drop, Option, Some, None, Result, Ok, Err, OnOk, OnErr, IfErr, MatchResult, refl, sym, ◌∙◌, ap, subst, arith}
+use Rattle.std.proofs.Common.{◌≡◌, ℕ, ◌<◌, ◌≤◌, ◌^◌, true, false, List, [], ◌∷◌, ◌++◌, length, take, drop, Option, Some}
+use Rattle.std.proofs.Common.{None, Result, Ok, Err, OnOk, OnErr, IfErr, MatchResult, refl, sym, ◌∙◌, ap, subst, arith}
 use Rattle.std.proofs.lemmas.List.{drop_at, take_at}
 use Rattle.asn1_model.specs.Schema.{Schema}
 use Rattle.asn1_model.specs.Value.{Value, depth}
@@ -78,7 +79,8 @@ as_text schema v o h n f = (h n f, h n f)
 
 module _ (schema : ℕ → Schema) (v : Value) (start : Written) (os : List ℕ) (e : start ≡ beginning os) (i : IsValue schema v) where
   -- after the records of a value come its octets
-  pub written_behind : (new : Written) → Writes Puts schema v start new → (new.failed ≡ false) × (new.state.1 ≡ []) × (new.state.0 ≡ os ++ added os new.state) × IsWrittenIn octet_rules schema v (of_moderate_length (added os new.state)) × HasTextIn octet_rules schema v (Some (added os new.state))
+  pub written_behind : (new : Written) → Writes Puts schema v start new → (new.failed ≡ false) × (new.state.1 ≡ []) ×
+      (new.state.0 ≡ os ++ added os new.state) × IsWrittenIn octet_rules schema v (of_moderate_length (added os new.state)) × HasTextIn octet_rules schema v (Some (added os new.state))
   written_behind new w =
       let x : Writes Puts schema v (beginning os) new = subst (λ s. Writes Puts schema v s new) e w in
       let held : (n : ℕ) → Fits (schema n) v → Chain Step (presents (schema n) v) (os, []) new.state = λ n f. chain_held (presents (schema n) v) (beginning os) new (x.chain n f) in
@@ -97,7 +99,10 @@ module _ (schema : ℕ → Schema) (v : Value) (start : Written) (os : List ℕ)
   pub refused_behind : (x y : EncodeError) → CannotWrite Puts schema v start x → PassedOn x y → NotEncoded schema v y
   refused_behind x y c p =
       let d : CannotWrite Puts schema v (beginning os) x = subst (λ s. CannotWrite Puts schema v s x) e c in
-      let z : CannotWrite Step schema v ([], []) x = record { none = λ k n new f t. let m = chain_behind (schema n) v os new t in let u = chain_taken (presents (schema n) v) (beginning os) m.0 refl m.1 in d.none k n u.0 f u.1 } in
+      let z : CannotWrite Step schema v ([], []) x = record {
+        none = λ k n new f t. let m = chain_behind (schema n) v os new t in let u =
+            chain_taken (presents (schema n) v) (beginning os) m.0 refl m.1 in d.none k n u.0 f u.1;
+      } in
       record {
         none = λ n. refuses_only_none steps schema v ([], []) x i tt refl (no_memory_before x y p n) z;
         long = λ h. absurd (never_long x y p h);
@@ -105,13 +110,15 @@ module _ (schema : ℕ → Schema) (v : Value) (start : Written) (os : List ℕ)
       }
 
 -- the same if nothing comes before
-pub written_all : (schema : ℕ → Schema) (v : Value) (start new : Written) (os : List ℕ) → start ≡ beginning os → os ≡ [] → IsValue schema v → Writes Puts schema v start new → (new.failed ≡ false) × (new.state.1 ≡ []) × IsWrittenIn octet_rules schema v (of_moderate_length new.state.0) × HasTextIn octet_rules schema v (Some new.state.0)
+pub written_all : (schema : ℕ → Schema) (v : Value) (start new : Written) (os : List ℕ) → start ≡ beginning os → os ≡ [] → IsValue schema v →
+    Writes Puts schema v start new → (new.failed ≡ false) × (new.state.1 ≡ []) × IsWrittenIn octet_rules schema v (of_moderate_length new.state.0) × HasTextIn octet_rules schema v (Some new.state.0)
 written_all schema v start new os e f i w =
     let t = written_behind schema v start os e i new w in
     let all : added os new.state ≡ new.state.0 = sym (t.2 ∙ ap (λ l. l ++ added os new.state) f) in
     (t.0, t.1, subst (λ l. IsWrittenIn octet_rules schema v (of_moderate_length l)) all t.3, subst (λ l. HasTextIn octet_rules schema v (Some l)) all t.4)
 
-pub refused_all : (schema : ℕ → Schema) (v : Value) (start : Written) (os : List ℕ) (x e : EncodeError) → start ≡ beginning os → os ≡ [] → IsValue schema v → CannotWrite Puts schema v start x → PassedOn x e → NotEncoded schema v e
+pub refused_all : (schema : ℕ → Schema) (v : Value) (start : Written) (os : List ℕ) (x e : EncodeError) → start ≡ beginning os → os ≡ [] →
+    IsValue schema v → CannotWrite Puts schema v start x → PassedOn x e → NotEncoded schema v e
 refused_all schema v start os x e k f i c p = refused_behind schema v start os k i x e c p
 
 -- ---- after the contents of a buffer
@@ -124,11 +131,13 @@ module _ (schema : ℕ → Schema) (v : Value) (old w all new : List ℕ) (n : �
   behind : drop n all ≡ w
   behind = ap (drop n) e ∙ drop_at old w n (sym m)
 
-  pub buffer_written : (r : Result (Unit {0}) EncodeError) → IsWrittenIn octet_rules schema v (of_moderate_length w) → CutAt n all new r → OnOk r ((octets : List ℕ) × IsEncoded schema v octets × (new ≡ old ++ octets))
+  pub buffer_written : (r : Result (Unit {0}) EncodeError) → IsWrittenIn octet_rules schema v (of_moderate_length w) → CutAt n all new r →
+      OnOk r ((octets : List ℕ) × IsEncoded schema v octets × (new ≡ old ++ octets))
   buffer_written (Ok u) h k = (w, subst (IsWrittenIn octet_rules schema v) (short_enough w (subst (λ l. length l < 2 ^ 60) behind k.1)) h, k.0 ∙ e)
   buffer_written (Err x) h k = tt
 
-  pub buffer_refused : (r : Result (Unit {0}) EncodeError) → IsWrittenIn octet_rules schema v (of_moderate_length w) → HasTextIn octet_rules schema v (Some w) → CutAt n all new r → IfErr r (NotEncoded schema v)
+  pub buffer_refused : (r : Result (Unit {0}) EncodeError) → IsWrittenIn octet_rules schema v (of_moderate_length w) →
+      HasTextIn octet_rules schema v (Some w) → CutAt n all new r → IfErr r (NotEncoded schema v)
   buffer_refused (Ok u) h t k = tt
   buffer_refused (Err x) h t k =
       let long : 2 ^ 60 ≤ length w = subst (λ l. 2 ^ 60 ≤ length l) behind k.1 in

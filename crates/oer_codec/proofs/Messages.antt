@@ -1,5 +1,6 @@
 -- Which message a decoder has found, and why the octets begin with none if it has found none.
-use Rattle.std.proofs.Common.{◌≡◌, inl, inr, min, append-nil, ℕ, ◌+◌, ◌-◌, ◌<◌, ◌≤◌, ◌^◌, true, false, IsTrue, List, [], ◌++◌, length, take, drop, refl, ap, sym, ◌∙◌, subst, append_assoc, arith, length-append}
+use Rattle.std.proofs.Common.{◌≡◌, inl, inr, min, append-nil, ℕ, ◌+◌, ◌-◌, ◌<◌, ◌≤◌, ◌^◌, true, false, IsTrue, List, []}
+use Rattle.std.proofs.Common.{◌++◌, length, take, drop, refl, ap, sym, ◌∙◌, subst, append_assoc, arith, length-append}
 use Rattle.std.proofs.lemmas.Bool.{cases_lt}
 use Rattle.std.proofs.lemmas.List.{length-take, take-append-drop, take-append-le}
 use Rattle.std.proofs.Math.Seq.{take-append-add, drop-append_seam}
@@ -71,7 +72,8 @@ behind text rest input e =
     let n : length (first input) - length rest ≡ length text = omega (arith, f, length-append text rest) in
     sym (drop-append_seam text (rest ++ drop (2 ^ 60 - 1) input)) ∙ ap (drop (length text)) (in_input text rest input e) ∙ ap (λ k. drop k input) (sym n)
 
-pub told : (r : EncodingRules) (schema : ℕ → Schema) (v : Value) (input : List ℕ) (new : Held) → ReadsValue Finds schema 128 v (begun r input) new → Tells (rules_of r) schema v input (drop (length (first input) - length new.octets) input)
+pub told : (r : EncodingRules) (schema : ℕ → Schema) (v : Value) (input : List ℕ) (new : Held) → ReadsValue Finds schema 128 v (begun r input) new →
+    Tells (rules_of r) schema v input (drop (length (first input) - length new.octets) input)
 told r schema v input new t =
     let s = schema 128 in
     let c = t.chain in
@@ -98,9 +100,11 @@ left_within schema v old new t =
     let l = ap length g.in_front in
     omega (arith, l, length-append g.text new.octets)
 
-pub told_from : (r : EncodingRules) (schema : ℕ → Schema) (v : Value) (input : List ℕ) (old new : Held) → old ≡ begun r input → ReadsValue Finds schema old.levels v old new → Tells (rules_of r) schema v input (drop (length old.octets - length new.octets) input)
+pub told_from : (r : EncodingRules) (schema : ℕ → Schema) (v : Value) (input : List ℕ) (old new : Held) → old ≡ begun r input →
+    ReadsValue Finds schema old.levels v old new → Tells (rules_of r) schema v input (drop (length old.octets - length new.octets) input)
 told_from r schema v input old new e t =
-    subst (λ (n : ℕ). Tells (rules_of r) schema v input (drop (n - length new.octets) input)) (sym (ap (λ (h : Held). length h.octets) e)) (told r schema v input new (subst (λ (h : Held). ReadsValue Finds schema h.levels v h new) e t))
+    subst (λ (n : ℕ). Tells (rules_of r) schema v input (drop (n - length new.octets) input)) (sym (ap (λ (h : Held). length h.octets) e))
+    (told r schema v input new (subst (λ (h : Held). ReadsValue Finds schema h.levels v h new) e t))
 
 -- ---- what is not found
 front_of : (text rest input : List ℕ) → length text < 2 ^ 60 → text ++ rest ≡ input → text ++ take (2 ^ 60 - 1 - length text) rest ≡ first input
@@ -110,7 +114,8 @@ front_of text rest input h e =
 
 module _ (r : EncodingRules) (schema : ℕ → Schema) (input : List ℕ) (lawful : IsLawful (schema 128)) where
   -- the message with which octets begin has records that are found
-  found_again : (v : Value) (rest : List ℕ) → HasMessage (rules_of r) (schema 128) v input rest → (w : Value) × (new : Held) × Fits (schema 128) w × Chain Finds (presents (schema 128) w) (begun r input) new
+  found_again : (v : Value) (rest : List ℕ) → HasMessage (rules_of r) (schema 128) v input rest → (w : Value) × (new : Held) × Fits (schema 128) w ×
+      Chain Finds (presents (schema 128) w) (begun r input) new
   found_again v rest m =
       let s = schema 128 in
       let q = form_of r s v m.message m.encoding in
@@ -138,16 +143,21 @@ begun_more input more = elim (cases_lt (2 ^ 60 - 1) (length input)) [
 ]
 
 -- If a decoder failed, the input with a few octets appended begins with no message either.
-pub more_needed : (r : EncodingRules) (schema : ℕ → Schema) (input : List ℕ) (failed : Held) (n : ℕ) (e : DecodeError) → IsLawful (schema 128) → n ≤ lacks failed + 1 → Unread Finds TooFewHeld schema 128 (begun r input) failed e → NeedsMore (rules_of r) schema input n e
+pub more_needed : (r : EncodingRules) (schema : ℕ → Schema) (input : List ℕ) (failed : Held) (n : ℕ) (e : DecodeError) → IsLawful (schema 128) →
+    n ≤ lacks failed + 1 → Unread Finds TooFewHeld schema 128 (begun r input) failed e → NeedsMore (rules_of r) schema input n e
 more_needed r schema input failed n e lawful few u more h =
     let z = begun_more input more in
-    let d : begun r (input ++ more) ≡ held_with z.0 (begun r input) = ap (λ (x : List ℕ). let h : Held = record { octets = x; scopes = []; levels = 128; most = 128; failed = false; short = 0; rules = r } in h) z.1 in
+    let d : begun r (input ++ more) ≡ held_with z.0 (begun r input) =
+    ap (λ (x : List ℕ). let h : Held = record { octets = x; scopes = []; levels = 128; most = 128; failed = false; short = 0; rules = r } in h) z.1 in
     let l = z.2 in
     let near : TooFewHeld (begun r input) failed (begun r (input ++ more)) = (z.0, d, inl (omega arith, omega arith)) in
     record { none = λ m v rest g. let f = found_again r schema (input ++ more) lawful v rest g in u.none m (begun r (input ++ more)) near f.0 f.1 f.2 f.3 }
 
-pub more_needed_from : (r : EncodingRules) (schema : ℕ → Schema) (input : List ℕ) (old failed : Held) (n : ℕ) (e : DecodeError) → IsLawful (schema 128) → old ≡ begun r input → n ≡ min (lacks failed + 1) (2 ^ 64 - 1) → Unread Finds TooFewHeld schema old.levels old failed e → NeedsMore (rules_of r) schema input n e
-more_needed_from r schema input old failed n e lawful q k u = more_needed r schema input failed n e lawful (omega (arith, k)) (subst (λ (h : Held). Unread Finds TooFewHeld schema h.levels h failed e) q u)
+pub more_needed_from : (r : EncodingRules) (schema : ℕ → Schema) (input : List ℕ) (old failed : Held) (n : ℕ) (e : DecodeError) →
+    IsLawful (schema 128) → old ≡ begun r input → n ≡ min (lacks failed + 1) (2 ^ 64 - 1) → Unread Finds TooFewHeld schema old.levels old failed e → NeedsMore (rules_of r) schema input n e
+more_needed_from r schema input old failed n e lawful q k u =
+    more_needed r schema input failed n e lawful (omega (arith, k)) (subst (λ (h : Held). Unread Finds TooFewHeld schema h.levels h failed e) q u)
 
-pub none_told_from : (r : EncodingRules) (schema : ℕ → Schema) (input : List ℕ) (old failed : Held) (e : DecodeError) → IsLawful (schema 128) → old ≡ begun r input → Unread Finds TooFewHeld schema old.levels old failed e → NoMessage (rules_of r) schema input e
+pub none_told_from : (r : EncodingRules) (schema : ℕ → Schema) (input : List ℕ) (old failed : Held) (e : DecodeError) → IsLawful (schema 128) →
+    old ≡ begun r input → Unread Finds TooFewHeld schema old.levels old failed e → NoMessage (rules_of r) schema input e
 none_told_from r schema input old failed e lawful q u = none_told r schema input lawful e failed (subst (λ (h : Held). Unread Finds TooFewHeld schema h.levels h failed e) q u)

@@ -15,7 +15,8 @@ use Rattle.oer_codec_decoder.specs.Scopes.{NextPresent}
 -- ---- the start of additions
 pub no_bitmap : (free : Oer.Freedom → Bool) (n : ℕ) (os : List ℕ) (m : Bool) (e : DecodeError) → m ≡ true → Misses free Oer.counted_bits os e → NoAdditions free m n os e
 no_bitmap free n os false e f h = cc f
-no_bitmap free n os true e f h = record { none = λ i k b t. missed free Oer.counted_bits os e h i t.0 b.0 (as_stands free (Oer.counted_bits t.0) os b.0 t.2); fresh = not_before free Oer.counted_bits os e h }
+no_bitmap free n os true e f h =
+    record { none = λ i k b t. missed free Oer.counted_bits os e h i t.0 b.0 (as_stands free (Oer.counted_bits t.0) os b.0 t.2); fresh = not_before free Oer.counted_bits os e h }
 
 -- ---- open types
 pub not_opened : (free : Oer.Freedom → Bool) (os : List ℕ) (e : DecodeError) → Misses free Oer.counted os e → NotOpened free os e
@@ -30,14 +31,16 @@ none_next free w os (added (false ∷ ms) us ∷ k) b none t = none false (added
 none_next free w os [] b none t = t
 none_next free w os (s ∷ k) b none t = absurd t
 
-pub none_opened : (free : Oer.Freedom → Bool) (v w : Bool) (os : List ℕ) (k after : List Scope) (b : State) → v ≡ true → NextPresent v k after → ((b : State) → Opens free os after b → ⊥) → NextAddition free w os k b → ⊥
+pub none_opened : (free : Oer.Freedom → Bool) (v w : Bool) (os : List ℕ) (k after : List Scope) (b : State) → v ≡ true → NextPresent v k after →
+    ((b : State) → Opens free os after b → ⊥) → NextAddition free w os k b → ⊥
 none_opened free v w os (added (true ∷ ms) us ∷ k) after b e n none t = none b (subst (λ s. Opens free os s b) (sym n.1) t.1)
 none_opened free v w os (added (false ∷ ms) us ∷ k) after b e n none t = let f : true ≡ false = sym e ∙ n.0 in cc f
 none_opened free v w os [] after b e n none t = absurd n
 none_opened free v w os (s ∷ k) after b e n none t = absurd n
 
 -- ---- the end
-pub skipped : (free : Oer.Freedom → Bool) (n : ℕ) (bs : List Bool) (os rest : List ℕ) (k : List Scope) → n ≡ 0 → Skips free bs os rest → Ends free os (added (first_bits n bs) (drop n bs) ∷ k) (rest, k)
+pub skipped : (free : Oer.Freedom → Bool) (n : ℕ) (bs : List Bool) (os rest : List ℕ) (k : List Scope) → n ≡ 0 → Skips free bs os rest →
+    Ends free os (added (first_bits n bs) (drop n bs) ∷ k) (rest, k)
 skipped free zero bs os rest k e s = (s, refl)
 skipped free (suc n) bs os rest k e s = cc e
 

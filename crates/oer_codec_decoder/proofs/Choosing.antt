@@ -39,7 +39,8 @@ module _ (free : Oer.Freedom → Bool) (roots : List Tag) (x : Bool) (others : L
       let q = same_fronts free (tags_alike free t u) os r s (as_front free (Oer.tag_form t) os r h) (as_front free (Oer.tag_form u) os s g) in
       (same_tag t u q.0, q.1)
 
-  pub no_alternative : (t : Tag) (os mid : List ℕ) (e : DecodeError) → ¬ (e ≡ AlreadyFailed) → Stands free (Oer.tag_form t) os mid → ((plus : Bool) (i : ℕ) → IsPlace roots x others t plus i → ⊥) → NoChoice free roots x others os e
+  pub no_alternative : (t : Tag) (os mid : List ℕ) (e : DecodeError) → ¬ (e ≡ AlreadyFailed) → Stands free (Oer.tag_form t) os mid →
+      ((plus : Bool) (i : ℕ) → IsPlace roots x others t plus i → ⊥) → NoChoice free roots x others os e
   no_alternative t os mid e n h none = record {
     fresh = n;
     none = λ i plus j k b c.
@@ -47,7 +48,8 @@ module _ (free : Oer.Freedom → Bool) (roots : List Tag) (x : Bool) (others : L
         none plus j (subst (λ u. IsPlace roots x others u plus j) q.0 c.2);
   }
 
-  pub no_entry : (t : Tag) (p : Bool) (n : ℕ) (os mid : List ℕ) (e : DecodeError) → Stands free (Oer.tag_form t) os mid → IsPlace roots x others t p n → NoEntry free p mid e → NoChoice free roots x others os e
+  pub no_entry : (t : Tag) (p : Bool) (n : ℕ) (os mid : List ℕ) (e : DecodeError) → Stands free (Oer.tag_form t) os mid →
+      IsPlace roots x others t p n → NoEntry free p mid e → NoChoice free roots x others os e
   no_entry t p n os mid e h place entry = record {
     fresh = entry.fresh;
     none = λ i plus j k b c.
@@ -57,7 +59,8 @@ module _ (free : Oer.Freedom → Bool) (roots : List Tag) (x : Bool) (others : L
   }
 
   -- if octets of an alternative are missing after its tag, octets of the choice are
-  pub no_choice_yet : (t : Tag) (p : Bool) (n : ℕ) (os mid : List ℕ) (m : ℕ) → Stands free (Oer.tag_form t) os mid → IsPlace roots x others t p n → StillNoEntry free p mid m → StillNoChoice free roots x others os m
+  pub no_choice_yet : (t : Tag) (p : Bool) (n : ℕ) (os mid : List ℕ) (m : ℕ) → Stands free (Oer.tag_form t) os mid → IsPlace roots x others t p n →
+      StillNoEntry free p mid m → StillNoChoice free roots x others os m
   no_choice_yet t p n os mid m h place entry more i l plus j k b c =
       let g = front_more free more (Oer.tag_form t) [] os mid (as_front free (Oer.tag_form t) os mid h) in
       let q = one_tag c.0 t (os ++ more) c.1 (mid ++ more) (as_stands free (Oer.tag_form c.0) (os ++ more) c.1 c.3) (as_stands free (Oer.tag_form t) (os ++ more) (mid ++ more) g) in

@@ -13,11 +13,14 @@ use Rattle.asn1_laws_fronts.proofs.OerNumbers.{unsigned_alike}
 use Rattle.oer_codec_decoder.proofs.Refused.{NoneIn, NoneInLevel}
 use Rattle.asn1_schema_errors.specs.declared.DecodeError.{DecodeError}
 use Rattle.asn1_schema_errors.specs.declared.DecodeError.TheVariants.{AlreadyFailed, OutOfMemory}
-use Rattle.asn1_schema_laws.specs.Records.{Record, Question, question, flag, nil, whole, bits, octets, characters, identifier, list_begins, sequence_begins, asks_flag, asks_nil, asks_whole, asks_bits, asks_octets, asks_characters, asks_identifier, asks_list, asks_sequence}
-use Rattle.oer_codec_reading.specs.Fronts.{freedoms, Stands, Misses, NoFront, Front as FrontOf}
+use Rattle.asn1_schema_laws.specs.Records.{Record, Question, question, flag, nil, whole, bits, octets, characters}
+use Rattle.asn1_schema_laws.specs.Records.{identifier, list_begins, sequence_begins, asks_flag, asks_nil, asks_whole}
+use Rattle.asn1_schema_laws.specs.Records.{asks_bits, asks_octets, asks_characters, asks_identifier, asks_list}
+use Rattle.asn1_schema_laws.specs.Records.{asks_sequence}
+use Rattle.oer_codec_reading.specs.Fronts.{freedoms, Stands, Misses, NoFront, FrontOf}
 use Rattle.oer_codec_reading.proofs.Fronts.{missed, not_before}
-use Rattle.oer_codec_reading.specs.Whole.{count_in}
-use Rattle.oer_codec_laws.specs.Takes.{Scope, components, members, State, Front, Found, Counted, Begins, Takes}
+use Rattle.oer_codec_reading.specs.Integers.{count_in}
+use Rattle.oer_codec_laws.specs.Takes.{Scope, components, members, State, Front, Found, ListBegins, Begins, Takes}
 use Rattle.oer_codec_laws.proofs.Next.{same_fronts}
 use Rattle.oer_codec_held_laws.specs.Held.{Held, state_of, Finds, IsReady}
 use Rattle.oer_codec_decoder.specs.Members.{HasMembers, NoMembers}
@@ -68,10 +71,14 @@ module _ (free : Oer.Freedom → Bool) (a b : State) where
   asked_identifier r k t = cc k
 
 -- no value of a type is found if the octets do not begin with one
-pub none_found : (old now : Held) (q : Question) (s : Schema) (e x : DecodeError) → now ≡ old → x ≡ e → NoFront (freedoms now.rules) s now.octets e → ((free : Oer.Freedom → Bool) (a b : State) (r : Record) → question r ≡ q → Takes free a r b → OfType free a b s) → NoneIn q old x
+pub none_found : (old now : Held) (q : Question) (s : Schema) (e x : DecodeError) → now ≡ old → x ≡ e → NoFront (freedoms now.rules) s now.octets e →
+    ((free : Oer.Freedom → Bool) (a b : State) (r : Record) → question r ≡ q → Takes free a r b → OfType free a b s) → NoneIn q old x
 none_found old now q s e x same faults m asked =
     let n : NoFront (freedoms old.rules) s old.octets e = subst (λ (h : Held). NoFront (freedoms h.rules) s h.octets e) same m in
-    record { none = λ i r new k p. let t = asked (freedoms old.rules) (state_of old) (state_of new) r k p.taken in missed (freedoms old.rules) (Oer.form s) old.octets e n (λ y. i (faults ∙ y)) t.0 new.octets (stands t.1.0) }
+    record {
+      none = λ i r new k p. let t = asked (freedoms old.rules) (state_of old) (state_of new) r k p.taken in
+          missed (freedoms old.rules) (Oer.form s) old.octets e n (λ y. i (faults ∙ y)) t.0 new.octets (stands t.1.0);
+    }
 
 -- ---- what a form says of a value
 reads_if : (free : Oer.Freedom → Bool) (c : Bool) (x : Oer.OctetForm) (w : List ℕ) → Reads free (only_if c x) 0 w → c ≡ true
@@ -107,7 +114,18 @@ pub both_ok : {A E : Type 0} {P Q R : Type 0} (r : Result A E) → OnOk r P → 
 both_ok (Ok x) p q f = f p q
 both_ok (Err e) p q f = tt
 
-pub opens : (old now new : Held) (s : Scope) (rest : List ℕ) (r : Record) → now ≡ old → IsReady old → Takes (freedoms now.rules) (state_of now) r (rest, s ∷ now.scopes) → ((most l : ℕ) → level most r (suc l) ≡ Some l) → now.levels ≡ new.levels + 1 → new ≡ record { octets = rest; scopes = s ∷ now.scopes; levels = new.levels; most = now.most; failed = now.failed; short = now.short; rules = now.rules } → Finds old r new
+pub opens : (old now new : Held) (s : Scope) (rest : List ℕ) (r : Record) → now ≡ old → IsReady old →
+    Takes (freedoms now.rules) (state_of now) r (rest, s ∷ now.scopes) → ((most l : ℕ) → level most r (suc l) ≡ Some l) →
+    now.levels ≡ new.levels + 1 → new ≡ record {
+      octets = rest;
+      scopes = s ∷ now.scopes;
+      levels = new.levels;
+      most = now.most;
+      failed =
+          now.failed;
+      short = now.short;
+      rules = now.rules;
+    } → Finds old r new
 opens old now new s rest r same ready t lower e f =
     let g : Takes (freedoms old.rules) (state_of old) r (rest, s ∷ old.scopes) = subst (λ (h : Held). Takes (freedoms h.rules) (state_of h) r (rest, s ∷ h.scopes)) same t in
     let k : (rest, s ∷ old.scopes) ≡ state_of new = ap (λ (h : Held). (rest, s ∷ h.scopes)) (sym same) ∙ sym (ap state_of f) in
@@ -138,15 +156,21 @@ pub no_beginning : (free : Oer.Freedom → Bool) (e : Bool) (n : ℕ) (a b : Sta
 unfolding Reads
 no_beginning free e n a b t none = none (components t.0 t.1) b.0 (t.2, t.3, (t.4.text, t.4.has_form, t.4.in_front))
 
-pub no_sequence : (old now : Held) (e : Bool) (n : ℕ) (x : DecodeError) → now ≡ old → ((s : Scope) (rest : List ℕ) → HasPreamble e n s now.octets rest → ⊥) → NoneInLevel (asks_sequence e n) old.levels old x
-no_sequence old now e n x same none = record { none = λ m l r new k p. no_beginning (freedoms old.rules) e n (state_of old) (state_of new) (asked_sequence (freedoms old.rules) e n (state_of old) (state_of new) r k p.taken) (λ s rest h. none s rest (subst (λ (g : Held). HasPreamble e n s g.octets rest) (sym same) h)) }
+pub no_sequence : (old now : Held) (e : Bool) (n : ℕ) (x : DecodeError) → now ≡ old →
+    ((s : Scope) (rest : List ℕ) → HasPreamble e n s now.octets rest → ⊥) → NoneInLevel (asks_sequence e n) old.levels old x
+no_sequence old now e n x same none =
+    record {
+      none = λ m l r new k p. no_beginning (freedoms old.rules) e n (state_of old) (state_of new)
+          (asked_sequence (freedoms old.rules) e n (state_of old) (state_of new) r k p.taken) (λ s rest h. none s rest (subst (λ (g : Held). HasPreamble e n s g.octets rest) (sym same) h));
+    }
 
 -- ---- lists
-pub counted : (free : Oer.Freedom → Bool) (h : Counts) (n : ℕ) (s : Scope) (os rest : List ℕ) (k : List Scope) → is_count_within h n ≡ true → HasMembers free h s os rest → Counted free h n (os, k) (rest, s ∷ k)
+pub counted : (free : Oer.Freedom → Bool) (h : Counts) (n : ℕ) (s : Scope) (os rest : List ℕ) (k : List Scope) → is_count_within h n ≡ true →
+    HasMembers free h s os rest → ListBegins free h n (os, k) (rest, s ∷ k)
 counted free h n (members m) os rest k e f = (m, e, f.0, record { text = f.1.0; has_form = f.1.2; in_front = f.1.1 }, refl)
 counted free h n s os rest k e f = absurd f
 
-asked_list : (free : Oer.Freedom → Bool) (z : Size) (h : Counts) (a b : State) (r : Record) → question r ≡ asks_list z h → Takes free a r b → (n : ℕ) × Counted free h n a b
+asked_list : (free : Oer.Freedom → Bool) (z : Size) (h : Counts) (a b : State) (r : Record) → question r ≡ asks_list z h → Takes free a r b → (n : ℕ) × ListBegins free h n a b
 asked_list free z h a b (list_begins y i n) k t =
     let p : list_begins y i n ≡ list_begins z h n = cc k in
     (n, subst (λ r. Takes free a r b) p t)
@@ -162,7 +186,7 @@ no_list old now z h e x same faults m =
     }
 
 -- if the octets do not begin with a number of elements, none begin
-pub not_counted : (free : Oer.Freedom → Bool) (h : Counts) (n : ℕ) (a b : State) (e : DecodeError) → NoMembers free h a.0 e → ¬ (e ≡ OutOfMemory) → Counted free h n a b → ⊥
+pub not_counted : (free : Oer.Freedom → Bool) (h : Counts) (n : ℕ) (a b : State) (e : DecodeError) → NoMembers free h a.0 e → ¬ (e ≡ OutOfMemory) → ListBegins free h n a b → ⊥
 not_counted free h n a b e m i t = m.none i (members t.0) b.0 (t.2, stands t.3)
 
 -- the bounds of a number of elements
@@ -170,7 +194,8 @@ pub between : (h : Counts) (most n : ℕ) → h.high ≡ Some most → is_count_
 between h most n top e = let p = and_parts _ _ e in (leb-true h.low n p.0, leb-true n most (subst (λ t. (option_map_or (λ x. leb n x) t true) ≡ true) top p.1))
 
 -- the octets begin with no other number of elements
-pub other_count : (free : Oer.Freedom → Bool) (h : Counts) (n : ℕ) (os rest : List ℕ) (e : DecodeError) → ¬ (e ≡ AlreadyFailed) → Stands free (Oer.unsigned n) os rest → (is_count_within h n ≡ true → ⊥) → NoMembers free h os e
+pub other_count : (free : Oer.Freedom → Bool) (h : Counts) (n : ℕ) (os rest : List ℕ) (e : DecodeError) → ¬ (e ≡ AlreadyFailed) →
+    Stands free (Oer.unsigned n) os rest → (is_count_within h n ≡ true → ⊥) → NoMembers free h os e
 other_count free h n os rest e q f w = record { none = λ i s more g. go s more g; fresh = q }
   where
     go : (s : Scope) (more : List ℕ) → HasMembers free h s os more → ⊥

@@ -30,7 +30,8 @@ within_more : (e : List ℕ) (k : List Scope) (os : List ℕ) → is_within k �
 within_more e [] os h = cc
 within_more e (open_type rest ∷ k) os h = at (λ i. within_more e k (octets_with e k rest) i) (is_within k) refl
   where
-    at : (is_within k ≡ true → length e ≤ length (octets_behind (octets_with e k rest) (scopes_with e k))) → (b : Bool) → is_within k ≡ b → length e ≤ length (octets_behind (octets_with e k rest) (scopes_with e k))
+    at : (is_within k ≡ true → length e ≤ length (octets_behind (octets_with e k rest) (scopes_with e k))) → (b : Bool) → is_within k ≡ b →
+        length e ≤ length (octets_behind (octets_with e k rest) (scopes_with e k))
     at again true i = again i
     at again false i =
         let p : octets_behind (octets_with e k rest) (scopes_with e k) ≡ octets_with e k rest = outside e k (octets_with e k rest) i in
@@ -84,7 +85,10 @@ module _ {q : Question} {x : DecodeError} (old failed : Held) (size : Option ℕ
   }
 
 -- the encoding of a value of a type, at the position of the decoder
-pub still_short : {q : Question} {failed : Held} {x : DecodeError} (old now : Held) (s : Schema) (size : Option ℕ) (os : List ℕ) → now ≡ old → os ≡ now.octets → failed.scopes ≡ now.scopes → StillTooShort (freedoms now.rules) size os (failed.short) → ((rules : EncodingRules) (w : List ℕ) → TooShort (freedoms rules) size w → NoneStands (freedoms rules) (Oer.form s) w) → ((free : Oer.Freedom → Bool) (a b : State) (r : Record) → question r ≡ q → Takes free a r b → OfType free a b s) → NoneIn q old x → NoRecord Finds TooFewHeld q old failed x
+pub still_short : {q : Question} {failed : Held} {x : DecodeError} (old now : Held) (s : Schema) (size : Option ℕ) (os : List ℕ) → now ≡ old →
+    os ≡ now.octets → failed.scopes ≡ now.scopes → StillTooShort (freedoms now.rules) size os (failed.short) →
+    ((rules : EncodingRules) (w : List ℕ) → TooShort (freedoms rules) size w → NoneStands (freedoms rules) (Oer.form s) w) →
+    ((free : Oer.Freedom → Bool) (a b : State) (r : Record) → question r ≡ q → Takes free a r b → OfType free a b s) → NoneIn q old x → NoRecord Finds TooFewHeld q old failed x
 still_short {failed = failed} old now s size os e f g short none asked n =
     still_lacking old failed size (g ∙ ap (λ (h : Held). h.scopes) e)
     (subst (λ (h : Held). StillTooShort (freedoms h.rules) size h.octets (failed.short)) e (subst (λ l. StillTooShort (freedoms now.rules) size l (failed.short)) f short))
@@ -98,14 +102,17 @@ bits_apart free n os (components (Some false) [] ∷ k) b t w = ap (λ (c : Stat
 bits_apart free n os (components (Some true) [] ∷ k) b t w = ap (λ l. octets_behind w l) t.3
 bits_apart free n os k b t w = absurd t
 
-pub bitmap_short : {failed : Held} {x : DecodeError} (old now : Held) (n : ℕ) (set : Bool) (k : List Scope) (size : Option ℕ) (os : List ℕ) → now ≡ old → os ≡ now.octets → now.scopes ≡ components (Some set) [] ∷ k → size ≡ bitmap_size set → failed.scopes ≡ now.scopes → StillTooShort (freedoms now.rules) size os (failed.short) → NoneIn (asks_additions n) old x → NoRecord Finds TooFewHeld (asks_additions n) old failed x
+pub bitmap_short : {failed : Held} {x : DecodeError} (old now : Held) (n : ℕ) (set : Bool) (k : List Scope) (size : Option ℕ) (os : List ℕ) →
+    now ≡ old → os ≡ now.octets → now.scopes ≡ components (Some set) [] ∷ k → size ≡ bitmap_size set → failed.scopes ≡ now.scopes →
+    StillTooShort (freedoms now.rules) size os (failed.short) → NoneIn (asks_additions n) old x → NoRecord Finds TooFewHeld (asks_additions n) old failed x
 bitmap_short {failed = failed} old now n set k size os e f s z g short none =
     let is : old.scopes ≡ components (Some set) [] ∷ k = sym (ap (λ (h : Held). h.scopes) e) ∙ s in
     still_lacking old failed size (g ∙ ap (λ (h : Held). h.scopes) e)
     (subst (λ (h : Held). StillTooShort (freedoms h.rules) size h.octets (failed.short)) e (subst (λ l. StillTooShort (freedoms now.rules) size l (failed.short)) f short))
     (λ e w b r q t few.
     let u = asked_additions (freedoms old.rules) n (w, scopes_with e old.scopes) b r q t in
-    no_bitmap_yet old.rules n set w (scopes_with e k) b (subst (λ l. AdditionsBegin (freedoms old.rules) n w l b) (ap (λ l. scopes_with e l) is) u) (subst (λ o. TooShort (freedoms old.rules) o w) z few))
+    no_bitmap_yet old.rules n set w (scopes_with e k) b (subst (λ l. AdditionsBegin (freedoms old.rules) n w l b) (ap (λ l. scopes_with e l) is) u)
+    (subst (λ o. TooShort (freedoms old.rules) o w) z few))
     (λ a b r q t w. bits_apart (freedoms old.rules) n a.0 a.1 b (asked_additions (freedoms old.rules) n a b r q t) w)
     none
 
@@ -115,7 +122,8 @@ same_due v (added (m ∷ ms) us ∷ k) after n = ap (λ l. due l) n.1
 same_due v (s ∷ k) after n = absurd n
 same_due v [] after n = absurd n
 
-opened : (free : Oer.Freedom → Bool) (v w : Bool) (os e : List ℕ) (k after : List Scope) (b : State) → v ≡ true → NextPresent v k after → NextAddition free w os (scopes_with e k) b → (rest : List ℕ) × Front free (Oer.counted b.0) os rest
+opened : (free : Oer.Freedom → Bool) (v w : Bool) (os e : List ℕ) (k after : List Scope) (b : State) → v ≡ true → NextPresent v k after →
+    NextAddition free w os (scopes_with e k) b → (rest : List ℕ) × Front free (Oer.counted b.0) os rest
 opened free v w os e (added (true ∷ ms) us ∷ k) after b t n a = (a.1.0, a.1.1)
 opened free v w os e (added (false ∷ ms) us ∷ k) after b t n a = let f : true ≡ false = sym t ∙ n.0 in cc f
 opened free v w os e [] after b t n a = absurd n
@@ -139,7 +147,8 @@ module _ {x : DecodeError} (old failed : Held) (v : Bool) (after : List Scope) (
         | inr l ↦ none_here i (old.octets ++ more) text rest (ap (λ l. old.octets ++ l) (no_octet more (omega arith)) ∙ append-nil old.octets) f
       ]
 
-  none_at : ¬ (e ≡ OutOfMemory) → (more text rest : List ℕ) → Fewer (due old.scopes) old failed more → (b : Bool) → is_within old.scopes ≡ b → Front (freedoms old.rules) (Oer.counted text) (octets_with more old.scopes old.octets) rest → ⊥
+  none_at : ¬ (e ≡ OutOfMemory) → (more text rest : List ℕ) → Fewer (due old.scopes) old failed more → (b : Bool) → is_within old.scopes ≡ b →
+      Front (freedoms old.rules) (Oer.counted text) (octets_with more old.scopes old.octets) rest → ⊥
   none_at i more text rest f true w g = none_here i (octets_with more old.scopes old.octets) text rest (ap (λ b. cond b old.octets (old.octets ++ more)) w) g
   none_at i more text rest f false w g = none_behind i more text rest f (subst (λ l. Front (freedoms old.rules) (Oer.counted text) l rest) (ap (λ b. cond b old.octets (old.octets ++ more)) w) g)
 
@@ -153,9 +162,13 @@ module _ {x : DecodeError} (old failed : Held) (v : Bool) (after : List Scope) (
   }
 
 -- the state in which the decoder failed
-pub addition_short : {x : DecodeError} (old now failed : Held) (v : Bool) (after : List Scope) (e : DecodeError) → now ≡ old → x ≡ e → v ≡ true → NextPresent v now.scopes after → NotOpened (freedoms now.rules) now.octets e → (¬ (e ≡ OutOfMemory) → (failed.scopes ≡ after) × StillTooShort (freedoms now.rules) None now.octets (failed.short)) → NoRecord Finds TooFewHeld asks_addition old failed x
+pub addition_short : {x : DecodeError} (old now failed : Held) (v : Bool) (after : List Scope) (e : DecodeError) → now ≡ old → x ≡ e → v ≡ true →
+    NextPresent v now.scopes after → NotOpened (freedoms now.rules) now.octets e →
+    (¬ (e ≡ OutOfMemory) → (failed.scopes ≡ after) × StillTooShort (freedoms now.rules) None now.octets (failed.short)) → NoRecord Finds TooFewHeld asks_addition old failed x
 addition_short old now failed v after e same faults there next closed kept =
-    addition_lacking old failed v after e faults there (subst (λ (h : Held). NextPresent v h.scopes after) same next) (subst (λ (h : Held). NotOpened (freedoms h.rules) h.octets e) same closed) (λ i. let k = kept i in (k.0, subst (λ (h : Held). StillTooShort (freedoms h.rules) None h.octets (failed.short)) same k.1))
+    addition_lacking old failed v after e faults there (subst (λ (h : Held). NextPresent v h.scopes after) same next)
+    (subst (λ (h : Held). NotOpened (freedoms h.rules) h.octets e) same closed) (λ i. let k = kept i in
+    (k.0, subst (λ (h : Held). StillTooShort (freedoms h.rules) None h.octets (failed.short)) same k.1))
 
 -- ---- choices
 module _ {x : DecodeError} (old failed : Held) (roots : List Tag) (e : Bool) (others : List Tag) (f : DecodeError)
@@ -166,7 +179,8 @@ module _ {x : DecodeError} (old failed : Held) (roots : List Tag) (e : Bool) (ot
   none_chosen : ¬ (f ≡ OutOfMemory) → (os : List ℕ) → os ≡ old.octets → (plus : Bool) (i : ℕ) (k : List Scope) (b : State) → Chooses (freedoms old.rules) roots e others plus i (os, k) b → ⊥
   none_chosen m os q plus i k b c = closed.none m plus i k b (subst (λ l. Chooses (freedoms old.rules) roots e others plus i (l, k) b) q c)
 
-  none_chosen_behind : ¬ (f ≡ OutOfMemory) → (more : List ℕ) → Fewer (due old.scopes) old failed more → (plus : Bool) (i : ℕ) (k : List Scope) (b : State) → Chooses (freedoms old.rules) roots e others plus i (old.octets ++ more, k) b → ⊥
+  none_chosen_behind : ¬ (f ≡ OutOfMemory) → (more : List ℕ) → Fewer (due old.scopes) old failed more →
+      (plus : Bool) (i : ℕ) (k : List Scope) (b : State) → Chooses (freedoms old.rules) roots e others plus i (old.octets ++ more, k) b → ⊥
   none_chosen_behind m more (inr z) plus i k b c = none_chosen m (old.octets ++ more) (ap (λ l. old.octets ++ l) z ∙ append-nil old.octets) plus i k b c
   none_chosen_behind m more (inl j) plus i k b c =
       let d : due failed.scopes ≡ due old.scopes = ap (λ l. due l) same in
@@ -176,9 +190,11 @@ module _ {x : DecodeError} (old failed : Held) (roots : List Tag) (e : Bool) (ot
         | inr l ↦ none_chosen m (old.octets ++ more) (ap (λ l. old.octets ++ l) (no_octet more (omega arith)) ∙ append-nil old.octets) plus i k b c
       ]
 
-  none_chosen_at : ¬ (f ≡ OutOfMemory) → (more : List ℕ) → Fewer (due old.scopes) old failed more → (w : Bool) → is_within old.scopes ≡ w → (plus : Bool) (i : ℕ) (k : List Scope) (b : State) → Chooses (freedoms old.rules) roots e others plus i (octets_with more old.scopes old.octets, k) b → ⊥
+  none_chosen_at : ¬ (f ≡ OutOfMemory) → (more : List ℕ) → Fewer (due old.scopes) old failed more → (w : Bool) → is_within old.scopes ≡ w →
+      (plus : Bool) (i : ℕ) (k : List Scope) (b : State) → Chooses (freedoms old.rules) roots e others plus i (octets_with more old.scopes old.octets, k) b → ⊥
   none_chosen_at m more g true w plus i k b c = none_chosen m (octets_with more old.scopes old.octets) (ap (λ b. cond b old.octets (old.octets ++ more)) w) plus i k b c
-  none_chosen_at m more g false w plus i k b c = none_chosen_behind m more g plus i k b (subst (λ l. Chooses (freedoms old.rules) roots e others plus i (l, k) b) (ap (λ b. cond b old.octets (old.octets ++ more)) w) c)
+  none_chosen_at m more g false w plus i k b c = none_chosen_behind m more g plus i k b
+      (subst (λ l. Chooses (freedoms old.rules) roots e others plus i (l, k) b) (ap (λ b. cond b old.octets (old.octets ++ more)) w) c)
 
   pub choice_lacking : NoLevel Finds TooFewHeld (asks_choice roots e others) old.levels old failed x
   choice_lacking = record {
@@ -189,6 +205,11 @@ module _ {x : DecodeError} (old failed : Held) (roots : List Tag) (e : Bool) (ot
   }
 
 -- the state in which the decoder failed
-pub choice_short : {x : DecodeError} (old now failed : Held) (roots : List Tag) (e : Bool) (others : List Tag) (f : DecodeError) (os : List ℕ) → now ≡ old → os ≡ now.octets → x ≡ f → failed.scopes ≡ now.scopes → NoChoice (freedoms now.rules) roots e others now.octets f → StillNoChoice (freedoms now.rules) roots e others os (failed.short) → NoLevel Finds TooFewHeld (asks_choice roots e others) old.levels old failed x
+pub choice_short : {x : DecodeError} (old now failed : Held) (roots : List Tag) (e : Bool) (others : List Tag) (f : DecodeError) (os : List ℕ) →
+    now ≡ old → os ≡ now.octets → x ≡ f → failed.scopes ≡ now.scopes → NoChoice (freedoms now.rules) roots e others now.octets f →
+    StillNoChoice (freedoms now.rules) roots e others os (failed.short) → NoLevel Finds TooFewHeld (asks_choice roots e others) old.levels old failed x
 choice_short old now failed roots e others f os same stood faults kept closed short =
-    choice_lacking old failed roots e others f faults (kept ∙ ap (λ (h : Held). h.scopes) same) (subst (λ (h : Held). NoChoice (freedoms h.rules) roots e others h.octets f) same closed) (subst (λ (h : Held). StillNoChoice (freedoms h.rules) roots e others h.octets (failed.short)) same (subst (λ l. StillNoChoice (freedoms now.rules) roots e others l (failed.short)) stood short))
+    choice_lacking old failed roots e others f faults (kept ∙ ap (λ (h : Held). h.scopes) same)
+    (subst (λ (h : Held). NoChoice (freedoms h.rules) roots e others h.octets f) same closed)
+    (subst (λ (h : Held). StillNoChoice (freedoms h.rules) roots e others h.octets (failed.short)) same
+    (subst (λ l. StillNoChoice (freedoms now.rules) roots e others l (failed.short)) stood short))

@@ -29,9 +29,11 @@ whole_octets [] h = refl
 whole_octets (o ∷ os) h = packed-next o (octet_bits os) h.0 ∙ ap (λ l. o ∷ l) (whole_octets os h.1)
 
 -- the bits of a preamble's octets
-bits_with_unused : (bs : List Bool) (w : List ℕ) → packed (bs ++ replicate (missing (length bs)) false) ≡ w → (octet_bits w ≡ bs ++ replicate (missing (length bs)) false) × (length w * 8 ≡ length bs + missing (length bs))
+bits_with_unused : (bs : List Bool) (w : List ℕ) → packed (bs ++ replicate (missing (length bs)) false) ≡ w →
+    (octet_bits w ≡ bs ++ replicate (missing (length bs)) false) × (length w * 8 ≡ length bs + missing (length bs))
 bits_with_unused bs w e =
-    let l : length (bs ++ replicate (missing (length bs)) false) ≡ length bs + missing (length bs) = length-append bs (replicate (missing (length bs)) false) ∙ ap (λ k. length bs + k) (length-replicate (missing (length bs)) false) in
+    let l : length (bs ++ replicate (missing (length bs)) false) ≡ length bs + missing (length bs) =
+    length-append bs (replicate (missing (length bs)) false) ∙ ap (λ k. length bs + k) (length-replicate (missing (length bs)) false) in
     let m : length bs + missing (length bs) ≡ 8 * ((length bs + 7) / 8) = omega arith in
     let b : octet_bits w ≡ bs ++ replicate (missing (length bs)) false = ap octet_bits (sym e) ∙ packed_back ((length bs + 7) / 8) (bs ++ replicate (missing (length bs)) false) (l ∙ m) in
     (b, sym (length-octet_bits w) ∙ ap length b ∙ l)
@@ -41,7 +43,8 @@ has_bits e n None ms p l = subst (λ b. length ms ≡ cond b 1 0 + n) p (omega (
 has_bits e n (Some x) ms p l = subst (λ b. suc (length ms) ≡ cond b 1 0 + n) p (omega (arith, l))
 
 -- the bits of the octets of a preamble are its bits followed by unused bits of zero
-pub zero_unused_bits : (e : Bool) (n : ℕ) (s : Scope) (w rest os : List ℕ) (r : List Bool) → AllByRecursion (λ o. o < 256) w → HasBits e n s (octet_bits w) r → length w * 8 ≡ (cond e 1 0 + n) + missing (cond e 1 0 + n) → r ≡ replicate (length r) false → w ++ rest ≡ os → HasPreamble e n s os rest
+pub zero_unused_bits : (e : Bool) (n : ℕ) (s : Scope) (w rest os : List ℕ) (r : List Bool) → AllByRecursion (λ o. o < 256) w →
+    HasBits e n s (octet_bits w) r → length w * 8 ≡ (cond e 1 0 + n) + missing (cond e 1 0 + n) → r ≡ replicate (length r) false → w ++ rest ≡ os → HasPreamble e n s os rest
 zero_unused_bits e n (components x ms) w rest os r small h l z f =
     let p = has_bits e n x ms h.0 h.1 in
     let a : length (preamble_bits x ms) + length r ≡ length w * 8 = sym (length-append (preamble_bits x ms) r) ∙ ap length h.2 ∙ length-octet_bits w in
@@ -53,7 +56,8 @@ zero_unused_bits e n (components x ms) w rest os r small h l z f =
 zero_unused_bits e n s w rest os r small h l z f = absurd h
 
 -- if an unused bit is set there is no preamble
-pub other_unused_bits : (e : Bool) (n : ℕ) (s t : Scope) (w new rest os : List ℕ) (r : List Bool) → HasBits e n s (octet_bits w) r → length w * 8 ≡ (cond e 1 0 + n) + missing (cond e 1 0 + n) → w ++ new ≡ os → HasPreamble e n t os rest → r ≡ replicate (length r) false
+pub other_unused_bits : (e : Bool) (n : ℕ) (s t : Scope) (w new rest os : List ℕ) (r : List Bool) → HasBits e n s (octet_bits w) r →
+    length w * 8 ≡ (cond e 1 0 + n) + missing (cond e 1 0 + n) → w ++ new ≡ os → HasPreamble e n t os rest → r ≡ replicate (length r) false
 other_unused_bits e n (components x ms) (components y ns) w new rest os r h l f g =
     let p = has_bits e n x ms h.0 h.1 in
     let q = has_bits e n y ns g.0 g.1 in

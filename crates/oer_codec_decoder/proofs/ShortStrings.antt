@@ -16,7 +16,7 @@ use Rattle.oer_codec_reading.specs.Fronts.{freedoms, Stands, NoneStands}
 use Rattle.oer_codec_reading.specs.Sized.{sized}
 use Rattle.oer_codec_reading.specs.Bits.{sized_bits}
 use Rattle.oer_codec_reading.specs.Characters.{octet_size}
-use Rattle.oer_codec_reading.specs.Whole.{sign_under, width_under}
+use Rattle.oer_codec_reading.specs.Integers.{sign_under, width_under}
 use Rattle.oer_codec_reading.proofs.LengthFronts.{few_counted}
 use Rattle.oer_codec_reading.proofs.SizedFronts.{too_few, no_number, no_sized}
 use Rattle.oer_codec_reading.proofs.CharacterFronts as Characters
@@ -69,7 +69,8 @@ module _ (free : Oer.Freedom → Bool) where
   pub no_text : (z : Size) (a : Alphabet) (h : Counts) (size : Option ℕ) → size ≡ one_size z → (w : List ℕ) → TooShort free size w → NoneStands free (Oer.form (character_string utf8 z a h)) w
   no_text z a h size e w t = Texts.no_octets free z a h w (no_octet_string z h size e w t)
 
-  pub no_characters : (k : StringKind) → ((cs : List ℕ) → may_hold k cs ≡ permits_all k cs) → (z : Size) (a : Alphabet) (h : Counts) (size : Option ℕ) → size ≡ one_size z → (w : List ℕ) → TooShort free size w → NoneStands free (Oer.form (character_string k z a h)) w
+  pub no_characters : (k : StringKind) → ((cs : List ℕ) → may_hold k cs ≡ permits_all k cs) →
+      (z : Size) (a : Alphabet) (h : Counts) (size : Option ℕ) → size ≡ one_size z → (w : List ℕ) → TooShort free size w → NoneStands free (Oer.form (character_string k z a h)) w
   no_characters k law z a h size e w t = Characters.no_octets free k law (permits k 256) refl z a h size e w (none_spelled (permits k 256) size w t)
 
   pub no_identifier : (w : List ℕ) → TooShort free None w → NoneStands free (Oer.form object_identifier) w
@@ -77,7 +78,8 @@ module _ (free : Oer.Freedom → Bool) where
 
 -- ---- numbers and bits
 module _ (r : EncodingRules) where
-  pub no_whole : (c : Option (Extensible Constraint.Value)) (h : Range) (size : Option ℕ) → size ≡ width_under (bounds_of c) → (w : List ℕ) → TooShort (freedoms r) size w → NoneStands (freedoms r) (Oer.form (integer (bounds_of c) (held_of c h))) w
+  pub no_whole : (c : Option (Extensible Constraint.Value)) (h : Range) (size : Option ℕ) → size ≡ width_under (bounds_of c) → (w : List ℕ) →
+      TooShort (freedoms r) size w → NoneStands (freedoms r) (Oer.form (integer (bounds_of c) (held_of c h))) w
   no_whole c h size e w t =
       Integers.no_integer (freedoms r) c h (sign_under (bounds_of c)) size w refl e (Wholes.no_octets r (sign_under (bounds_of c)) size w (none_sized (freedoms r) size w t))
 
@@ -88,10 +90,12 @@ module _ (r : EncodingRules) where
   none_in_octets (Some n) w t = BitStrings.none_of_size r (Some n) n w refl (Bits.short_bits r n ((n + 7) / 8) w (omega arith) t)
   none_in_octets None w t = BitStrings.none_of_any_size r None w refl (no_varying w t)
 
-  pub no_bit_string : (z : Size) (h : Counts) (size octets : Option ℕ) → size ≡ one_size z → octets ≡ octets_of_bits size → (w : List ℕ) → TooShort (freedoms r) octets w → NoneStands (freedoms r) (Oer.form (bit_string z h)) w
+  pub no_bit_string : (z : Size) (h : Counts) (size octets : Option ℕ) → size ≡ one_size z → octets ≡ octets_of_bits size → (w : List ℕ) →
+      TooShort (freedoms r) octets w → NoneStands (freedoms r) (Oer.form (bit_string z h)) w
   no_bit_string z h size octets e f w t = BitStrings.no_string r z h size w e (none_in_octets size w (subst (λ o. TooShort (freedoms r) o w) f t))
 
   -- presence bitmaps
-  pub no_bitmap_yet : (n : ℕ) (set : Bool) (os : List ℕ) (k : List Scope) (b : State) → AdditionsBegin (freedoms r) n os (components (Some set) [] ∷ k) b → TooShort (freedoms r) (bitmap_size set) os → ⊥
+  pub no_bitmap_yet : (n : ℕ) (set : Bool) (os : List ℕ) (k : List Scope) (b : State) →
+      AdditionsBegin (freedoms r) n os (components (Some set) [] ∷ k) b → TooShort (freedoms r) (bitmap_size set) os → ⊥
   no_bitmap_yet n true os k b a t = Bitmaps.no_bitmap r os (no_varying os t) a.0 b.0 (as_stands (freedoms r) (Oer.counted_bits a.0) os b.0 a.2)
   no_bitmap_yet n false os k b a t = absurd (omega (arith, t))

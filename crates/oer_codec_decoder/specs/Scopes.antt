@@ -1,5 +1,5 @@
 -- What has begun and has not ended, as a decoder of OER (X.696) holds it.
-use Rattle.std.specs.Prelude.{◌≡◌, ℕ, suc, ◌+◌, Bool, List, [], ◌∷◌, drop, map, reverse, Option, Some, None}
+use Rattle.std.specs.Prelude.{◌≡◌, ℕ, suc, ◌+◌, Bool, List, [], ◌∷◌, drop, map, Option, Some, None}
 use Rattle.asn1_schema_reading_laws.specs.PresenceBits.{first_bits}
 use Rattle.asn1_values_bits.specs.BitStr.{bits_of}
 use Rattle.oer_codec_laws.specs.Takes.{Scope, components, added, open_type, members, alternative}
@@ -31,17 +31,11 @@ abbrev pub frame_of : Enclosing → Frame
 frame_of EnclosingAlternative = Alternative
 frame_of (EnclosingOpenType behind) = OpenType behind
 
--- The open scopes that frames represent, the innermost first. The innermost frame is apart; those around it are in the
--- order in which they began.
-abbrev pub framed : Option Frame → List Frame → List Scope
-framed None fs = []
-framed (Some f) fs = scope_of f ∷ map scope_of (reverse fs)
-
 -- The open scopes, the innermost first: one that contains a single value, if there is one, and those that frames
 -- represent.
-abbrev pub scopes_of : Option Enclosing → Option Frame → List Frame → List Scope
-scopes_of None f fs = framed f fs
-scopes_of (Some e) f fs = scope_of (frame_of e) ∷ framed f fs
+abbrev pub scopes_of : Option Enclosing → List Frame → List Scope
+scopes_of None fs = map scope_of fs
+scopes_of (Some e) fs = scope_of (frame_of e) ∷ map scope_of fs
 
 -- The open scopes, if a number outside the frames says how many elements of the innermost list are still to come.
 abbrev pub with_due : ℕ → List Scope → List Scope

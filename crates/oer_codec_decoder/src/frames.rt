@@ -1,6 +1,6 @@
 //! Open scopes.
 ghost use Rattle.std.specs.Prelude.{◌≡◌, ◌<◌, ◌∷◌, ◌++◌, [], ◌+◌, ◌-◌, ◌^◌, List, min, None, Some, OnOk, OnErr, IfErr};
-ghost use Rattle.std.specs.Prelude.{IfOk, IfSome};
+ghost use Rattle.std.specs.Prelude.{IfOk, IfSome, map};
 ghost use Rattle.std.specs.Prelude.{IfNone};
 ghost use Rattle.oer_codec_laws.specs.Takes.{AdditionEnds, Ends, NextPresenceBit, NextMember};
 ghost use Rattle.oer_codec_laws.specs.Takes.{components, members};
@@ -8,11 +8,12 @@ ghost use Rattle.oer_codec_reading.specs.Fronts.{freedoms};
 ghost use Rattle.oer_codec_decoder.specs.Refusals.{NoAdditionEnd, NoEnd, NotFinished};
 ghost use Rattle.oer_codec_longer_laws.specs.Few.{around, due};
 ghost use Rattle.oer_codec_decoder.specs.declared.frames.Frame.{Frame};
-ghost use Rattle.oer_codec_decoder.specs.Scopes.{NextPresent, frame_of, framed, owing, scope_of, scopes_of};
+ghost use Rattle.oer_codec_decoder.specs.Scopes.{NextPresent, frame_of, owing, scope_of, scopes_of};
 
 use crate::additions::Additions;
 use crate::endings::finish;
 use asn1_schema_errors::DecodeError;
+use asn1_schema_scopes::Stack;
 use asn1_values_bits::BitStr;
 use oer_codec_reading::{Cursor, EncodingRules, leave_open_type, take_bit};
 use std::alloc::{AllocError, Global};
@@ -94,27 +95,19 @@ fn frames_due(frames: &[Frame<'_>]) -> Result<usize, usize>
     Ok(due)
 }
 
-/// Opens a frame inside all others.
+/// The number of elements that are still to come in all frames, counted from the outermost one up to the first open
+/// type, saturating at 64 bits.
 #[inline(always)]
-fn open_frame<'input>(
-    innermost: &mut Option<Frame<'input>>,
-    outer: &mut Vec<Frame<'input>>,
-    frame: Frame<'input>,
-) -> Result<(), AllocError>
-    ensures { OnOk result (framed innermost.new outer.new.items ≡ scope_of frame.entry
-        ∷ framed innermost.old outer.old.items) }
+fn all_frames_due(frames: &Stack<Frame<'_>>) -> usize
+    ensures { result ≡ min (due (map scope_of frames.now)) (2 ^ 64 - 1) }
 {
-    if innermost.is_none() {
-        if !outer.is_empty() {
-            outer.clear();
-        }
-        *innermost = Some(frame);
-        return Ok(());
+    let Some(innermost) = &frames.innermost else {
+        return 0;
+    };
+    match frames_due(frames.outer()) {
+        Ok(due) => innermost.add_due(due).unwrap_or(due),
+        Err(due) => due,
     }
-    if let Some(around) = innermost.replace(frame) {
-        outer.push(around)?;
-    }
-    Ok(())
 }
 
 /// Turns the scope that contains a single value into a frame inside all others. Called seldom: if something begins in
@@ -122,34 +115,30 @@ fn open_frame<'input>(
 #[cold]
 fn settle_enclosing<'input>(
     enclosing: &mut Option<Enclosing<'input>>,
-    innermost: &mut Option<Frame<'input>>,
-    outer: &mut Vec<Frame<'input>>,
+    frames: &mut Stack<Frame<'input>>,
 ) -> Result<(), AllocError>
-    ensures frames { OnOk result (framed innermost.new outer.new.items
-        ≡ scopes_of enclosing.old innermost.old outer.old.items) }
+    ensures frames { OnOk result (map scope_of frames.new ≡ scopes_of enclosing.old frames.old) }
     ensures none { OnOk result (enclosing.new ≡ None) }
 {
     let Some(around) = enclosing.take() else {
         return Ok(());
     };
-    open_frame(innermost, outer, around.frame())
+    frames.open(around.frame())
 }
 
 /// As `settle_enclosing`; does nothing if there is no scope that contains a single value.
 #[inline(always)]
 fn settle<'input>(
     enclosing: &mut Option<Enclosing<'input>>,
-    innermost: &mut Option<Frame<'input>>,
-    outer: &mut Vec<Frame<'input>>,
+    frames: &mut Stack<Frame<'input>>,
 ) -> Result<(), AllocError>
-    ensures frames { OnOk result (framed innermost.new outer.new.items
-        ≡ scopes_of enclosing.old innermost.old outer.old.items) }
+    ensures frames { OnOk result (map scope_of frames.new ≡ scopes_of enclosing.old frames.old) }
     ensures none { OnOk result (enclosing.new ≡ None) }
 {
     if enclosing.is_none() {
         return Ok(());
     }
-    settle_enclosing(enclosing, innermost, outer)
+    settle_enclosing(enclosing, frames)
 }
 
 /// Closes the scope that contains a single value. An open type (X.696 30) ends.
@@ -172,60 +161,47 @@ fn close_enclosing<'input>(
 /// Closes the innermost frame, if nothing of it is still to come.
 #[inline(always)]
 fn close_frame<'input>(
-    innermost: &mut Option<Frame<'input>>,
-    outer: &mut Vec<Frame<'input>>,
+    frames: &mut Stack<Frame<'input>>,
     cursor: &mut Cursor<'input>,
     rules: EncodingRules,
 ) -> Result<(), DecodeError>
-    ensures ok { OnOk result (Ends (freedoms rules) cursor.old (framed innermost.old outer.old.items)
-        (cursor.new, framed innermost.new outer.new.items)) }
-    ensures only { IfErr result (NoEnd (freedoms rules) cursor.old (framed innermost.old outer.old.items)) }
-    ensures left { OnErr result (framed innermost.new outer.new.items
-        ≡ around (framed innermost.old outer.old.items)) }
+    ensures ok { OnOk result (Ends (freedoms rules) cursor.old (map scope_of frames.old)
+        (cursor.new, map scope_of frames.new)) }
+    ensures only { IfErr result (NoEnd (freedoms rules) cursor.old (map scope_of frames.old)) }
+    ensures left { OnErr result (map scope_of frames.new ≡ around (map scope_of frames.old)) }
 {
-    let Some(frame) = innermost.take() else {
+    let Some(frame) = frames.close() else {
         return Err(DecodeError::NotValidCanonicalEncoding);
     };
-    if let Err(error) = finish(frame, cursor, rules) {
-        *innermost = outer.pop();
-        return Err(error);
-    }
-    if !outer.is_empty() {
-        *innermost = outer.pop();
-    }
-    Ok(())
+    finish(frame, cursor, rules)
 }
 
 /// Closes the innermost frame, if it is that of an addition (X.696 30).
 #[cold]
 fn close_frame_of_addition<'input>(
-    innermost: &mut Option<Frame<'input>>,
-    outer: &mut Vec<Frame<'input>>,
+    frames: &mut Stack<Frame<'input>>,
     cursor: &mut Cursor<'input>,
     rules: EncodingRules,
 ) -> Result<(), DecodeError>
-    ensures ok { OnOk result (AdditionEnds (freedoms rules) cursor.old (framed innermost.old outer.old.items)
-        (cursor.new, framed innermost.new outer.new.items)) }
-    ensures only { IfErr result (NoAdditionEnd (freedoms rules) cursor.old (framed innermost.old outer.old.items)) }
+    ensures ok { OnOk result (AdditionEnds (freedoms rules) cursor.old (map scope_of frames.old)
+        (cursor.new, map scope_of frames.new)) }
+    ensures only { IfErr result (NoAdditionEnd (freedoms rules) cursor.old (map scope_of frames.old)) }
 {
-    let Some(Frame::OpenType(behind)) = innermost.take() else {
+    let Some(Frame::OpenType(behind)) = frames.close() else {
         return Err(DecodeError::NotValidCanonicalEncoding);
     };
-    let Some(Frame::Added(additions)) = outer.pop() else {
+    let Some(Frame::Added(_)) = &frames.innermost else {
         return Err(DecodeError::NotValidCanonicalEncoding);
     };
     leave_open_type(cursor, rules, behind)?;
-    *innermost = Some(Frame::Added(additions));
     Ok(())
 }
 
-/// All open scopes: one that contains a single value, which is innermost if there is one; the innermost of the others;
-/// and those around it.
+/// All open scopes: one that contains a single value, which is innermost if there is one, and the others.
 #[derive(Drop)]
 pub(crate) struct Nested<'input> {
     enclosing: Option<Enclosing<'input>>,
-    innermost: Option<Frame<'input>>,
-    outer: Vec<Frame<'input>>,
+    frames: Stack<Frame<'input>>,
 }
 
 impl<'input> Model for Nested<'input> {
@@ -235,7 +211,7 @@ impl<'input> Model for Nested<'input> {
 
     ghost Value = { List Scope };
 
-    ghost view = { λ s. scopes_of s.enclosing s.innermost s.outer.items };
+    ghost view = { λ s. scopes_of s.enclosing s.frames };
 }
 
 impl<'input> Nested<'input> {
@@ -245,8 +221,7 @@ impl<'input> Nested<'input> {
     {
         Nested {
             enclosing: None,
-            innermost: None,
-            outer: Vec::new(alloc),
+            frames: Stack::new(alloc),
         }
     }
 
@@ -255,8 +230,7 @@ impl<'input> Nested<'input> {
         ensures { self.new ≡ [] }
     {
         self.enclosing = None;
-        self.innermost = None;
-        self.outer.clear();
+        self.frames.clear();
     }
 
     /// The number of elements that are still to come in each SEQUENCE OF and SET OF that is open outside open types,
@@ -265,13 +239,7 @@ impl<'input> Nested<'input> {
     pub(crate) fn due(&self) -> usize
         ensures { result ≡ min (due self.now) (2 ^ 64 - 1) }
     {
-        let Some(innermost) = &self.innermost else {
-            return 0;
-        };
-        match frames_due(self.outer.as_slice()) {
-            Ok(due) => innermost.add_due(due).unwrap_or(due),
-            Err(due) => due,
-        }
+        all_frames_due(&self.frames)
     }
 
     /// Opens a scope inside all others.
@@ -279,8 +247,8 @@ impl<'input> Nested<'input> {
     pub(crate) fn open(&mut self, frame: Frame<'input>) -> Result<(), AllocError>
         ensures { OnOk result (self.new ≡ scope_of frame.entry ∷ self.old) }
     {
-        settle(&mut self.enclosing, &mut self.innermost, &mut self.outer)?;
-        open_frame(&mut self.innermost, &mut self.outer, frame)
+        settle(&mut self.enclosing, &mut self.frames)?;
+        self.frames.open(frame)
     }
 
     /// Opens, inside all others, a scope that contains a single value.
@@ -288,7 +256,7 @@ impl<'input> Nested<'input> {
     pub(crate) fn enclose(&mut self, enclosing: Enclosing<'input>) -> Result<(), AllocError>
         ensures { OnOk result (self.new ≡ scope_of (frame_of enclosing.entry) ∷ self.old) }
     {
-        settle(&mut self.enclosing, &mut self.innermost, &mut self.outer)?;
+        settle(&mut self.enclosing, &mut self.frames)?;
         self.enclosing = Some(enclosing);
         Ok(())
     }
@@ -298,7 +266,7 @@ impl<'input> Nested<'input> {
     pub(crate) fn replace(&mut self, frame: Frame<'input>)
         ensures { (x : _) (ms : _) (k : _) → self.old ≡ components x ms ∷ k → self.new ≡ scope_of frame.entry ∷ k }
     {
-        self.innermost = Some(frame);
+        self.frames.innermost = Some(frame);
     }
 
     /// Sets the number of elements of the innermost list that are still to come. Called seldom: if something begins in
@@ -307,7 +275,7 @@ impl<'input> Nested<'input> {
     pub(crate) fn set_due(&mut self, due: usize)
         ensures { (n : _) (k : _) → self.old ≡ members n ∷ k → self.new ≡ members due ∷ k }
     {
-        self.innermost = Some(Frame::Members(due));
+        self.frames.innermost = Some(Frame::Members(due));
     }
 
     /// The extension bit of the innermost SEQUENCE, if all its presence bits were read.
@@ -319,7 +287,7 @@ impl<'input> Nested<'input> {
         if self.enclosing.is_some() {
             return None;
         }
-        match &self.innermost {
+        match &self.frames.innermost {
             Some(Frame::Components(Some(set), presence)) => {
                 if presence.is_empty() {
                     return Some(*set);
@@ -339,7 +307,7 @@ impl<'input> Nested<'input> {
         if self.enclosing.is_some() {
             return None;
         }
-        match &mut self.innermost {
+        match &mut self.frames.innermost {
             Some(Frame::Components(_, presence)) => take_bit(presence),
             _ => None,
         }
@@ -354,7 +322,7 @@ impl<'input> Nested<'input> {
         if self.enclosing.is_some() {
             return None;
         }
-        match &mut self.innermost {
+        match &mut self.frames.innermost {
             Some(Frame::Added(additions)) => additions.next(),
             _ => None,
         }
@@ -369,7 +337,7 @@ impl<'input> Nested<'input> {
         if self.enclosing.is_some() {
             return None;
         }
-        match &mut self.innermost {
+        match &mut self.frames.innermost {
             Some(Frame::Members(due)) => {
                 if *due == 0 {
                     return Some(false);
@@ -393,7 +361,7 @@ impl<'input> Nested<'input> {
         ensures left { OnErr result (self.new ≡ around self.old) }
     {
         if self.enclosing.is_none() {
-            return close_frame(&mut self.innermost, &mut self.outer, cursor, rules);
+            return close_frame(&mut self.frames, cursor, rules);
         }
         match self.enclosing.take() {
             Some(enclosing) => close_enclosing(enclosing, cursor, rules),
@@ -412,12 +380,12 @@ impl<'input> Nested<'input> {
         ensures only { IfErr result (NoAdditionEnd (freedoms rules) cursor.old self.old) }
     {
         let Some(enclosing) = self.enclosing.take() else {
-            return close_frame_of_addition(&mut self.innermost, &mut self.outer, cursor, rules);
+            return close_frame_of_addition(&mut self.frames, cursor, rules);
         };
         let Enclosing::OpenType(behind) = enclosing else {
             return Err(DecodeError::NotValidCanonicalEncoding);
         };
-        let Some(Frame::Added(_)) = &self.innermost else {
+        let Some(Frame::Added(_)) = &self.frames.innermost else {
             return Err(DecodeError::NotValidCanonicalEncoding);
         };
         leave_open_type(cursor, rules, behind)?;

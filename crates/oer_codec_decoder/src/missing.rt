@@ -3,7 +3,7 @@
 ghost use Rattle.std.specs.Prelude.{◌≡◌, None};
 ghost use Rattle.asn1_schema_constraints.specs.Terms.{bounds_of};
 ghost use Rattle.oer_codec_reading.specs.Fronts.{freedoms};
-ghost use Rattle.oer_codec_reading.specs.Whole.{width_under};
+ghost use Rattle.oer_codec_reading.specs.Integers.{width_under};
 ghost use Rattle.oer_codec_decoder.specs.Missing.{StillNoChoice, StillNoEntry, StillTooShort};
 ghost use Rattle.oer_codec_decoder.specs.Missing.{bitmap_size, octets_of_bits};
 

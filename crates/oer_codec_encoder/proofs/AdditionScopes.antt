@@ -1,5 +1,7 @@
 -- Additions that begin, continue and end, in the octets and the frames of an encoder.
-use Rattle.std.proofs.Common.{◌≡◌, ℕ, not, suc, ◌+◌, ◌-◌, ◌*◌, ◌/◌, ◌%◌, ◌^◌, ◌<◌, ◌||◌, Bool, true, false, List, [], ◌∷◌, ◌++◌, length, take, drop, get_or, set, replicate, Option, Some, None, refl, ap, subst, sym, ◌∙◌, arith, length-append, length-set}
+use Rattle.std.proofs.Common.{◌≡◌, ℕ, not, suc, ◌+◌, ◌-◌, ◌*◌, ◌/◌, ◌%◌, ◌^◌, ◌<◌, ◌||◌, Bool, true, false, List, []}
+use Rattle.std.proofs.Common.{◌∷◌, ◌++◌, length, take, drop, get_or, set, replicate, Option, Some, None, refl, ap}
+use Rattle.std.proofs.Common.{subst, sym, ◌∙◌, arith, length-append, length-set}
 use Rattle.std.proofs.lemmas.List.{get_or_append_left}
 use Rattle.asn1_model.specs.Form.{written}
 use Rattle.asn1_model.specs.Numbers.{binary, missing}
@@ -46,12 +48,15 @@ begun n c bitmap root_end = record {
 
 module _ (fs rest : List Frame) (c : Preamble) (o : List ℕ) (a : fs ≡ Components c ∷ rest) (e : c.extensible ≡ true) (d : c.due ≡ 0) where
   rooted : (s : State) → Holds fs o s → IsOpen (λ q t. Holds rest q t) true 0 c.given c.start o s
-  rooted s h = subst (λ b. IsOpen (λ q t. Holds rest q t) b 0 c.given c.start o s) e (subst (λ k. IsOpen (λ q t. Holds rest q t) c.extensible k c.given c.start o s) d (on_top fs rest (Components c) o s a h))
+  rooted s h = subst (λ b. IsOpen (λ q t. Holds rest q t) b 0 c.given c.start o s) e
+      (subst (λ k. IsOpen (λ q t. Holds rest q t) c.extensible k c.given c.start o s) d (on_top fs rest (Components c) o s a h))
 
-  pub does_additions : (gs : List Frame) (n k bitmap root_end : ℕ) (p q : List ℕ) → n < 2 ^ 64 → Adds (written (bits_heading n) 0) o p → k * 8 ≡ (n + 0) + missing (n + 0) → bitmap ≡ length p → root_end ≡ length o → q ≡ p ++ replicate k 0 → gs ≡ Added (begun n c bitmap root_end) ∷ rest → Does (additions_begin n) fs o gs q
+  pub does_additions : (gs : List Frame) (n k bitmap root_end : ℕ) (p q : List ℕ) → n < 2 ^ 64 → Adds (written (bits_heading n) 0) o p →
+      k * 8 ≡ (n + 0) + missing (n + 0) → bitmap ≡ length p → root_end ≡ length o → q ≡ p ++ replicate k 0 → gs ≡ Added (begun n c bitmap root_end) ∷ rest → Does (additions_begin n) fs o gs q
   does_additions gs n k bitmap root_end p q fits x whole at end y z = record { after = λ s h. go s (rooted s h) (written (bits_heading n) 0) refl x }
     where
-      go : (s : State) → IsOpen (λ q t. Holds rest q t) true 0 c.given c.start o s → (t : Option (List ℕ)) → written (bits_heading n) 0 ≡ t → Adds t o p → (u : State) × (run (additions_begin n) s ≡ Some u) × Holds gs q u
+      go : (s : State) → IsOpen (λ q t. Holds rest q t) true 0 c.given c.start o s → (t : Option (List ℕ)) → written (bits_heading n) 0 ≡ t →
+          Adds t o p → (u : State) × (run (additions_begin n) s ≡ Some u) × Holds gs q u
       go s h None m b = cc
       go s h (Some w) m b =
           let i = h.has in
@@ -87,7 +92,10 @@ with_due k a = record {
 }
 
 -- what holds for additions holds for those after the next one, with its bit
-behind : (rest : List Frame) (a : Additions) (here : Bool) (o p : List ℕ) (s : State) → (h : IsExtended (λ q t. Holds rest q t) (with_due (suc (a.due - 1)) a) o s) → (i : HasBits false (a.due - 1) (a.given + 1) a.bitmap p) → i.front ≡ h.has.front → i.inner ≡ h.has.inner → i.presence_bits ≡ h.has.presence_bits ++ here ∷ [] → Holds (Added (with_next here a) ∷ rest) p (behind_root (a.due - 1) h.has.inner h.preamble.presence_bits h.preamble.inner (h.has.presence_bits ++ here ∷ []) h.outer)
+behind : (rest : List Frame) (a : Additions) (here : Bool) (o p : List ℕ) (s : State) →
+    (h : IsExtended (λ q t. Holds rest q t) (with_due (suc (a.due - 1)) a) o s) → (i : HasBits false (a.due - 1) (a.given + 1) a.bitmap p) →
+    i.front ≡ h.has.front → i.inner ≡ h.has.inner → i.presence_bits ≡ h.has.presence_bits ++ here ∷ [] →
+    Holds (Added (with_next here a) ∷ rest) p (behind_root (a.due - 1) h.has.inner h.preamble.presence_bits h.preamble.inner (h.has.presence_bits ++ here ∷ []) h.outer)
 behind rest a here o p s h i front inner bits =
     let count : a.given + 1 + (a.due - 1) ≡ a.given + suc (a.due - 1) = omega arith in
     record {
@@ -130,13 +138,21 @@ module _ (fs rest : List Frame) (a : Additions) (o : List ℕ) (e : fs ≡ Added
   does_no_addition gs x = record { after = λ s h. go s (next_due s h) }
     where
       go : (s : State) → IsExtended (λ q t. Holds rest q t) (with_due (suc (a.due - 1)) a) o s → (t : State) × (run (addition false) s ≡ Some t) × Holds gs o t
-      go s h = (then_state s h false, ap (run (addition false)) h.is, put_back gs rest (Added (with_next false a)) o (then_state s h false) x (behind rest a false o o s h (with_absent false (a.due - 1) a.given a.bitmap o h.has) refl refl refl))
+      go s h = (
+        then_state s h false,
+        ap (run (addition false)) h.is,
+        put_back gs rest (Added (with_next false a)) o (then_state s h false) x
+            (behind rest a false o o s h (with_absent false (a.due - 1) a.given a.bitmap o h.has) refl refl refl),
+      )
 
   -- where the next bit is
   pub bit_within : AreSound fs o → a.bitmap + a.given / 8 < length o
   bit_within s = within_octets false (a.due - 1) a.given a.bitmap o (next_due s.state s.holds).has a.given place
 
-  pub does_addition : (mid gs : List Frame) (p q : List ℕ) → mid ≡ Added (with_next true a) ∷ rest → p ≡ set o (a.bitmap + a.given / 8) (get_or p (a.bitmap + a.given / 8) 0) → binary 8 (get_or p (a.bitmap + a.given / 8) 0) ≡ set (binary 8 (get_or o (a.bitmap + a.given / 8) 0)) (a.given % 8) true → ((j d : ℕ) → j < length q → get_or q j d < 256) → q ≡ p ++ 0 ∷ [] → gs ≡ OpenType (length p) ∷ mid → Does (addition true) fs o gs q
+  pub does_addition : (mid gs : List Frame) (p q : List ℕ) → mid ≡ Added (with_next true a) ∷ rest →
+      p ≡ set o (a.bitmap + a.given / 8) (get_or p (a.bitmap + a.given / 8) 0) → binary 8 (get_or p (a.bitmap + a.given / 8) 0)
+      ≡ set (binary 8 (get_or o (a.bitmap + a.given / 8) 0)) (a.given % 8) true → ((j d : ℕ) → j < length q → get_or q j d < 256) → q ≡ p ++ 0 ∷ [] →
+      gs ≡ OpenType (length p) ∷ mid → Does (addition true) fs o gs q
   does_addition mid gs p q x others bit small v y = record { after = λ s h. go s (next_due s h) }
     where
       go : (s : State) → IsExtended (λ q t. Holds rest q t) (with_due (suc (a.due - 1)) a) o s → (t : State) × (run (addition true) s ≡ Some t) × Holds gs q t
@@ -148,16 +164,19 @@ module _ (fs rest : List Frame) (a : Additions) (o : List ℕ) (e : fs ≡ Added
           let octet : get_or p at 0 < 256 = omega (arith, same, small at 0 (omega (arith, m, ap length v, length-append p (0 ∷ [])))) in
           let below : State = then_state s h true in
           let t : State = ([], open_type below.0 ∷ below.1) in
-          let under : Holds mid p below = put_back mid rest (Added (with_next true a)) p below x (behind rest a true o p s h (with_present false (a.due - 1) a.given a.bitmap o h.has p a.given place others bit octet) refl refl refl) in
+          let under : Holds mid p below = put_back mid rest (Added (with_next true a)) p below x
+          (behind rest a true o p s h (with_present false (a.due - 1) a.given a.bitmap o h.has p a.given place others bit octet) refl refl refl) in
           (t, ap (run (addition true)) h.is, subst (λ l. Holds gs l t) (sym v) (put_back gs mid (OpenType (length p)) (p ++ 0 ∷ []) t y (begins_apart mid p below under)))
 
 -- ---- its end
 
-pub does_addition_end : (fs rest : List Frame) (o p : List ℕ) (start : ℕ) → fs ≡ OpenType start ∷ rest → (a : Additions) (k : List Frame) → rest ≡ Added a ∷ k → Adds (written (Oer.counted (drop (start + 1) o)) 0) (take start o) p → Does addition_ends fs o rest p
+pub does_addition_end : (fs rest : List Frame) (o p : List ℕ) (start : ℕ) → fs ≡ OpenType start ∷ rest → (a : Additions) (k : List Frame) →
+    rest ≡ Added a ∷ k → Adds (written (Oer.counted (drop (start + 1) o)) 0) (take start o) p → Does addition_ends fs o rest p
 does_addition_end fs rest o p start e a k q x = record { after = λ s h. go s (on_top fs rest (OpenType start) o s e h) }
   where
     go : (s : State) → Holds (OpenType start ∷ rest) o s → (t : State) × (run addition_ends s ≡ Some t) × Holds rest p t
-    go s h = ends (written (Oer.counted h.inner) 0) refl (subst (λ l. Adds (written (Oer.counted l) 0) h.front p) (behind_room start o s h) (subst (λ l. Adds (written (Oer.counted (drop (start + 1) o)) 0) l p) (before_room start o s h) x))
+    go s h = ends (written (Oer.counted h.inner) 0) refl (subst (λ l. Adds (written (Oer.counted l) 0) h.front p) (behind_room start o s h)
+        (subst (λ l. Adds (written (Oer.counted (drop (start + 1) o)) 0) l p) (before_room start o s h) x))
       where
         under : Holds (Added a ∷ k) h.front h.outer
         under = subst (λ l. Holds l h.front h.outer) q h.under

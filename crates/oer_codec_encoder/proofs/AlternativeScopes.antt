@@ -42,10 +42,12 @@ among_others roots e others i false h k = cc
 
 module _ (roots : List Tag) (e : Bool) (others : List Tag) (i : ℕ) where
   -- the tag is written
-  begins : (plus : Bool) (tag : Tag) (w : List ℕ) (s : State) → tag_at i (tags_among roots e others plus) ≡ Some tag → written (Oer.tag_form tag) 0 ≡ Some w → run (choice_begins roots e others plus i) s ≡ chosen_on plus w s
+  begins : (plus : Bool) (tag : Tag) (w : List ℕ) (s : State) → tag_at i (tags_among roots e others plus) ≡ Some tag →
+      written (Oer.tag_form tag) 0 ≡ Some w → run (choice_begins roots e others plus i) s ≡ chosen_on plus w s
   begins plus tag w s h k = ap (λ o. option_and_then (λ t. option_and_then (λ w. chosen_on plus w s) (written (Oer.tag_form t) 0)) o) h ∙ ap (λ o. option_and_then (λ w. chosen_on plus w s) o) k
 
-  pub does_begin_root : (fs gs : List Frame) (o p : List ℕ) (plus : Bool) (tag : Tag) → plus ≡ false → tag_at i (tags_among roots e others plus) ≡ Some tag → Adds (written (Oer.tag_form tag) 0) o p → gs ≡ Alternative ∷ fs → Does (choice_begins roots e others plus i) fs o gs p
+  pub does_begin_root : (fs gs : List Frame) (o p : List ℕ) (plus : Bool) (tag : Tag) → plus ≡ false →
+      tag_at i (tags_among roots e others plus) ≡ Some tag → Adds (written (Oer.tag_form tag) 0) o p → gs ≡ Alternative ∷ fs → Does (choice_begins roots e others plus i) fs o gs p
   does_begin_root fs gs o p plus tag c h x y = record { after = λ s d. go s d (written (Oer.tag_form tag) 0) refl x }
     where
       go : (s : State) → Holds fs o s → (t : Option (List ℕ)) → written (Oer.tag_form tag) 0 ≡ t → Adds t o p → (u : State) × (run (choice_begins roots e others plus i) s ≡ Some u) × Holds gs p u
@@ -55,7 +57,9 @@ module _ (roots : List Tag) (e : Bool) (others : List Tag) (i : ℕ) where
           let b : o ++ w ≡ p = cc a in
           (u, begins plus tag w s h q ∙ ap (λ c. chosen_on c w s) c, put_back gs fs Alternative p u y ((s.0 ++ w, s.1), refl, subst (λ l. Holds fs l (s.0 ++ w, s.1)) b (appended fs o s w d)))
 
-  pub does_begin_added : (fs gs : List Frame) (o p q : List ℕ) (plus : Bool) (tag : Tag) → plus ≡ true → tag_at i (tags_among roots e others plus) ≡ Some tag → Adds (written (Oer.tag_form tag) 0) o p → q ≡ p ++ 0 ∷ [] → gs ≡ OpenType (length p) ∷ fs → Does (choice_begins roots e others plus i) fs o gs q
+  pub does_begin_added : (fs gs : List Frame) (o p q : List ℕ) (plus : Bool) (tag : Tag) → plus ≡ true →
+      tag_at i (tags_among roots e others plus) ≡ Some tag → Adds (written (Oer.tag_form tag) 0) o p → q ≡ p ++ 0 ∷ [] →
+      gs ≡ OpenType (length p) ∷ fs → Does (choice_begins roots e others plus i) fs o gs q
   does_begin_added fs gs o p q plus tag c h x z y = record { after = λ s d. go s d (written (Oer.tag_form tag) 0) refl x }
     where
       go : (s : State) → Holds fs o s → (t : Option (List ℕ)) → written (Oer.tag_form tag) 0 ≡ t → Adds t o p → (u : State) × (run (choice_begins roots e others plus i) s ≡ Some u) × Holds gs q u
@@ -67,5 +71,6 @@ module _ (roots : List Tag) (e : Bool) (others : List Tag) (i : ℕ) where
           let under : Holds fs p t = subst (λ l. Holds fs l t) b (appended fs o s w d) in
           (u, begins plus tag w s h k ∙ ap (λ c. chosen_on c w s) c, subst (λ l. Holds gs l u) (sym z) (put_back gs fs (OpenType (length p)) (p ++ 0 ∷ []) u y (begins_apart fs p t under)))
 
-  pub no_begin_choice : (fs : List Frame) (o : List ℕ) (plus : Bool) → tag_at i (tags_among roots e others plus) ≡ None → (s : State) → Holds fs o s → run (choice_begins roots e others plus i) s ≡ None
+  pub no_begin_choice : (fs : List Frame) (o : List ℕ) (plus : Bool) → tag_at i (tags_among roots e others plus) ≡ None → (s : State) → Holds fs o s →
+      run (choice_begins roots e others plus i) s ≡ None
   no_begin_choice fs o plus h s d = ap (λ o. option_and_then (λ t. option_and_then (λ w. chosen_on plus w s) (written (Oer.tag_form t) 0)) o) h

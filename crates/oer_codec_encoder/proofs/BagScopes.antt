@@ -1,5 +1,7 @@
 -- Bags that begin, continue and end, in the octets and the frames of an encoder.
-use Rattle.std.proofs.Common.{◌≡◌, ℕ, suc, ◌+◌, ◌-◌, ◌<◌, Bool, true, false, cond, ltb, List, [], ◌∷◌, ◌++◌, length, map, Option, Some, None, option_map, Vec, Box, Global, Result, Ok, Err, MatchResult, refl, ap, subst, sym, ◌∙◌, arith}
+use Rattle.std.proofs.Common.{◌≡◌, ℕ, suc, ◌+◌, ◌-◌, ◌<◌, Bool, true, false, cond, ltb, List, [], ◌∷◌, ◌++◌, length}
+use Rattle.std.proofs.Common.{map, Option, Some, None, option_map, Vec, Box, Global, Result, Ok, Err, MatchResult, refl}
+use Rattle.std.proofs.Common.{ap, subst, sym, ◌∙◌, arith}
 use Rattle.std.proofs.lemmas.List.{append-nil}
 use Rattle.asn1_model.specs.Form.{written, exactly, only_if, given, joined, stands_before, ascending, with_keys, put_in_place}
 use Rattle.asn1_model.specs.Numbers.{is_count_within}
@@ -25,10 +27,12 @@ use Rattle.oer_codec_encoder.proofs.Scopes.{on_top, put_back, appended}
 abbrev pub begun : ℕ → Vec ℕ Global → BagFrame
 begun n outer = record { due = n; outer = outer; members = None }
 
-pub does_begin_bag : (fs gs : List Frame) (o p q : List ℕ) (z : Size) (h : Counts) (n : ℕ) (outer : Vec ℕ Global) (boxed : Box BagFrame Global) → Adds (written (only_if (is_count_within h n) (Oer.unsigned n)) 0) o p → outer.items ≡ p → q ≡ [] → boxed.value ≡ begun n outer → gs ≡ Bag boxed ∷ fs → Does (bag_begins z h n) fs o gs q
+pub does_begin_bag : (fs gs : List Frame) (o p q : List ℕ) (z : Size) (h : Counts) (n : ℕ) (outer : Vec ℕ Global) (boxed : Box BagFrame Global) →
+    Adds (written (only_if (is_count_within h n) (Oer.unsigned n)) 0) o p → outer.items ≡ p → q ≡ [] → boxed.value ≡ begun n outer → gs ≡ Bag boxed ∷ fs → Does (bag_begins z h n) fs o gs q
 does_begin_bag fs gs o p q z h n outer boxed x r v held y = record { after = λ s d. go s d (written (only_if (is_count_within h n) (Oer.unsigned n)) 0) refl x }
   where
-    go : (s : State) → Holds fs o s → (t : Option (List ℕ)) → written (only_if (is_count_within h n) (Oer.unsigned n)) 0 ≡ t → Adds t o p → (u : State) × (run (bag_begins z h n) s ≡ Some u) × Holds gs q u
+    go : (s : State) → Holds fs o s → (t : Option (List ℕ)) → written (only_if (is_count_within h n) (Oer.unsigned n)) 0 ≡ t → Adds t o p →
+        (u : State) × (run (bag_begins z h n) s ≡ Some u) × Holds gs q u
     go s d None e a = cc
     go s d (Some w) e a =
         let u : State = ([], bag_members n None (s.0 ++ w) ∷ s.1) in
@@ -72,7 +76,8 @@ module _ (fs rest gs : List Frame) (boxed next : Box BagFrame Global) (o p : Lis
           let b = boxed.value in
           let c = next.value in
           let t : State = ([], bag_members (b.due - 1) (Some (with_open b.members o)) h.0.0 ∷ h.0.1) in
-          let counted : t ≡ ([], bag_members c.due (Some (with_open b.members o)) h.0.0 ∷ h.0.1) = ap (λ k. let l : State = ([], bag_members k (Some (with_open b.members o)) h.0.0 ∷ h.0.1) in l) (sym n.1) in
+          let counted : t ≡ ([], bag_members c.due (Some (with_open b.members o)) h.0.0 ∷ h.0.1) =
+          ap (λ k. let l : State = ([], bag_members k (Some (with_open b.members o)) h.0.0 ∷ h.0.1) in l) (sym n.1) in
           let told : t ≡ ([], bag_members c.due c.members h.0.0 ∷ h.0.1) = counted ∙ ap (λ ws. let l : State = ([], bag_members c.due ws h.0.0 ∷ h.0.1) in l) (sym n.3) in
           (t, ap (run (further true)) h.1, subst (λ l. Holds gs l t) (sym n.4) (put_back gs rest (Bag next) [] t y (h.0, told, subst (λ v. Holds rest v.items h.0) (sym n.2) h.2)))
 
@@ -101,7 +106,8 @@ put_formed : (e : List ℕ × Entry) (es : List (List ℕ × Entry)) → put_in_
 put_formed e [] = refl
 put_formed e (f ∷ fs) = go (before f.0 e.0) (put_formed e fs)
   where
-    go : (b : Bool) → put_in_place before (own e) (map own fs) ≡ map own (put_in_place before e fs) → cond b (own f ∷ put_in_place before (own e) (map own fs)) (own e ∷ own f ∷ map own fs) ≡ map own (cond b (f ∷ put_in_place before e fs) (e ∷ f ∷ fs))
+    go : (b : Bool) → put_in_place before (own e) (map own fs) ≡ map own (put_in_place before e fs) →
+        cond b (own f ∷ put_in_place before (own e) (map own fs)) (own e ∷ own f ∷ map own fs) ≡ map own (cond b (f ∷ put_in_place before e fs) (e ∷ f ∷ fs))
     go true h = ap (λ l. own f ∷ l) h
     go false h = refl
 
@@ -110,7 +116,8 @@ unfolding written
 formed_keys [] = refl
 formed_keys (e ∷ es) = ap (option_map (λ l. put_in_place before (octets_of e, form_of e) l)) (formed_keys es) ∙ go (with_keys (λ f. Some (octets_of f)) before es)
   where
-    go : (o : Option (List (List ℕ × Entry))) → option_map (λ l. put_in_place before (octets_of e, form_of e) l) (option_map (map own) o) ≡ option_map (map own) (option_map (λ l. put_in_place before (octets_of e, e) l) o)
+    go : (o : Option (List (List ℕ × Entry))) → option_map (λ l. put_in_place before (octets_of e, form_of e) l) (option_map (map own) o)
+        ≡ option_map (map own) (option_map (λ l. put_in_place before (octets_of e, e) l) o)
     go None = refl
     go (Some l) = ap Some (put_formed (octets_of e, e) l)
 
@@ -158,7 +165,8 @@ adds_none old = ap Some (append-nil old)
 does_end_bag : (boxed : Box BagFrame Global) (k : List Frame) (o p : List ℕ) → BagEnds boxed.value o p → Does ends (Bag boxed ∷ k) o k p
 does_end_bag boxed k o p n = record { after = λ s h. go s (subst (λ i. IsInBag (λ l t. Holds k l t) (with_due i boxed.value) o s) n.0 h) (bag_text (with_open boxed.value.members o)) refl n.1 }
   where
-    go : (s : State) → IsInBag (λ l t. Holds k l t) (with_due 0 boxed.value) o s → (t : Option (List ℕ)) → bag_text (with_open boxed.value.members o) ≡ t → Adds t boxed.value.outer.items p → (u : State) × (run ends s ≡ Some u) × Holds k p u
+    go : (s : State) → IsInBag (λ l t. Holds k l t) (with_due 0 boxed.value) o s → (t : Option (List ℕ)) →
+        bag_text (with_open boxed.value.members o) ≡ t → Adds t boxed.value.outer.items p → (u : State) × (run ends s ≡ Some u) × Holds k p u
     go s h None e y = cc
     go s h (Some w) e y =
         let u : State = (h.0.0 ++ w, h.0.1) in
@@ -172,7 +180,8 @@ no_end_of_bag boxed k o n s h = ap (run ends) (subst (λ j. IsInBag (λ l t. Hol
     one = omega arith
 
 -- whatever encloses it
-pub bag_ends : (f : Frame) (boxed : Box BagFrame Global) (o p : List ℕ) (r : Result (Unit {0}) EncodeError) → f ≡ Bag boxed → MatchResult r (λ _. BagEnds boxed.value o p) (NoEnd boxed.value.due) → MatchResult r (λ _. (k : List Frame) → Does ends (f ∷ k) o k p) (λ e. (k : List Frame) → Cannot ends (f ∷ k) o e)
+pub bag_ends : (f : Frame) (boxed : Box BagFrame Global) (o p : List ℕ) (r : Result (Unit {0}) EncodeError) → f ≡ Bag boxed →
+    MatchResult r (λ _. BagEnds boxed.value o p) (NoEnd boxed.value.due) → MatchResult r (λ _. (k : List Frame) → Does ends (f ∷ k) o k p) (λ e. (k : List Frame) → Cannot ends (f ∷ k) o e)
 bag_ends f boxed o p (Ok u) x m = λ k. subst (λ g. Does ends (g ∷ k) o k p) (sym x) (does_end_bag boxed k o p m)
 bag_ends f boxed o p (Err e) x m = λ k. subst (λ g. Cannot ends (g ∷ k) o e) (sym x) (cannot ends (Bag boxed ∷ k) o e m.0 (λ n. no_end_of_bag boxed k o (m.1 n)))
 

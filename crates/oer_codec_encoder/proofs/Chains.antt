@@ -24,7 +24,11 @@ runs_chain (r ∷ rs) a b h = go (λ m f. runs_chain rs m b f) (run r a) refl h
 
 -- the records of a value are a chain exactly from what is held to that with the value's octets appended
 pub chains_add : ChainsAddTheOctets
-chains_add s v os k new = (λ c. go (written (Oer.form s v) 0) refl (sym at ∙ chain_runs (presents s v) (os, k) new c), λ t. runs_chain (presents s v) (os, k) new (at ∙ ap (option_and_then (λ w. Some (os ++ w, k))) t.1 ∙ ap Some (sym t.2)))
+chains_add s v os k new = (
+  λ c. go (written (Oer.form s v) 0) refl (sym at ∙ chain_runs (presents s v) (os, k) new c),
+  λ t.
+      runs_chain (presents s v) (os, k) new (at ∙ ap (option_and_then (λ w. Some (os ++ w, k))) t.1 ∙ ap Some (sym t.2)),
+)
   where
     at : runs (presents s v) (os, k) ≡ option_and_then (λ w. Some (os ++ w, k)) (written (Oer.form s v) 0)
     at = ap (λ l. runs l (os, k)) (sym (append-nil (presents s v))) ∙ every_type s v 0 os k []

@@ -1,5 +1,8 @@
 -- Open types, alternatives and additions that end, in the octets and the frames of an encoder.
-use Rattle.std.proofs.Common.{◌≡◌, ℕ, ◌+◌, ◌-◌, ◌<◌, not, Bool, true, false, cond, List, [], ◌∷◌, ◌++◌, length, get_or, set, take, drop, replicate, Option, Some, None, option_map, option_and_then, Result, Ok, Err, MatchResult, refl, ap, subst, sym, ◌∙◌, arith, append_assoc, length-append, length-set}
+use Rattle.std.proofs.Common.{◌≡◌, ℕ, ◌+◌, ◌-◌, ◌<◌, not, Bool, true, false, cond, List, [], ◌∷◌, ◌++◌, length, get_or}
+use Rattle.std.proofs.Common.{set, take, drop, replicate, Option, Some, None, option_map, option_and_then, Result, Ok}
+use Rattle.std.proofs.Common.{Err, MatchResult, refl, ap, subst, sym, ◌∙◌, arith, append_assoc, length-append}
+use Rattle.std.proofs.Common.{length-set}
 use Rattle.std.proofs.lemmas.List.{append-nil, set-append_left, set-append_right, get_or-append_right, get_or_append_left}
 use Rattle.asn1_model.specs.Form.{written, exactly, both}
 use Rattle.asn1_model.specs.Numbers.{binary, octet_bits, packed, missing}
@@ -32,7 +35,8 @@ pub does_end_open : (fs rest : List Frame) (o p : List ℕ) (start : ℕ) → fs
 does_end_open fs rest o p start a x = record { after = λ s h. go s (on_top fs rest (OpenType start) o s a h) }
   where
     go : (s : State) → Holds (OpenType start ∷ rest) o s → (u : State) × (run ends s ≡ Some u) × Holds rest p u
-    go s h = closes (written (Oer.counted h.inner) 0) refl (subst (λ l. Adds (written (Oer.counted l) 0) h.front p) (behind_room start o s h) (subst (λ l. Adds (written (Oer.counted (drop (start + 1) o)) 0) l p) (before_room start o s h) x))
+    go s h = closes (written (Oer.counted h.inner) 0) refl (subst (λ l. Adds (written (Oer.counted l) 0) h.front p) (behind_room start o s h)
+        (subst (λ l. Adds (written (Oer.counted (drop (start + 1) o)) 0) l p) (before_room start o s h) x))
       where
         closes : (t : Option (List ℕ)) → written (Oer.counted h.inner) 0 ≡ t → Adds t h.front p → (u : State) × (run ends s ≡ Some u) × Holds rest p u
         closes None e y = cc
@@ -47,20 +51,26 @@ open_within fs rest o start s a = room_within start o s.state (on_top fs rest (O
 -- ---- a frame ends, whatever encloses it
 
 -- an open type
-open_ends : (start : ℕ) (o p : List ℕ) (r : Result (Unit {0}) EncodeError) → MatchResult r (λ _. Adds (written (Oer.counted (drop (start + 1) o)) 0) (take start o) p) (λ e. e ≡ OutOfMemory) → MatchResult r (λ _. (k : List Frame) → Does ends (OpenType start ∷ k) o k p) (λ e. (k : List Frame) → Cannot ends (OpenType start ∷ k) o e)
+open_ends : (start : ℕ) (o p : List ℕ) (r : Result (Unit {0}) EncodeError) →
+    MatchResult r (λ _. Adds (written (Oer.counted (drop (start + 1) o)) 0) (take start o) p) (λ e. e ≡ OutOfMemory) →
+    MatchResult r (λ _. (k : List Frame) → Does ends (OpenType start ∷ k) o k p) (λ e. (k : List Frame) → Cannot ends (OpenType start ∷ k) o e)
 open_ends start o p (Ok u) m = λ k. does_end_open (OpenType start ∷ k) k o p start refl m
 open_ends start o p (Err e) m = λ k. subst (λ x. Cannot ends (OpenType start ∷ k) o x) (sym m) tt
 
 pub open_frame_within : (f : Frame) (start : ℕ) (o : List ℕ) → ((k : List Frame) × AreSound (f ∷ k) o) → f ≡ OpenType start → start < length o
 open_frame_within f start o h e = open_within (f ∷ h.0) h.0 o start h.1 (ap (λ g. g ∷ h.0) e)
 
-pub open_frame_ends : (f : Frame) (start : ℕ) (o p : List ℕ) (r : Result (Unit {0}) EncodeError) → f ≡ OpenType start → MatchResult r (λ _. Adds (written (Oer.counted (drop (start + 1) o)) 0) (take start o) p) (λ e. e ≡ OutOfMemory) → MatchResult r (λ _. (k : List Frame) → Does ends (f ∷ k) o k p) (λ e. (k : List Frame) → Cannot ends (f ∷ k) o e)
+pub open_frame_ends : (f : Frame) (start : ℕ) (o p : List ℕ) (r : Result (Unit {0}) EncodeError) → f ≡ OpenType start →
+    MatchResult r (λ _. Adds (written (Oer.counted (drop (start + 1) o)) 0) (take start o) p) (λ e. e ≡ OutOfMemory) →
+    MatchResult r (λ _. (k : List Frame) → Does ends (f ∷ k) o k p) (λ e. (k : List Frame) → Cannot ends (f ∷ k) o e)
 open_frame_ends f start o p r e m = subst (λ g. MatchResult r (λ _. (k : List Frame) → Does ends (g ∷ k) o k p) (λ x. (k : List Frame) → Cannot ends (g ∷ k) o x)) (sym e) (open_ends start o p r m)
 
 pub small_within : (f : SmallFrame) (start : ℕ) (o : List ℕ) → ((k : List Frame) × AreSound (frame_of f ∷ k) o) → f ≡ SmallOpenType start → start < length o
 small_within f start o h e = open_frame_within (frame_of f) start o h (ap frame_of e)
 
-pub small_ends : (f : SmallFrame) (start : ℕ) (o p : List ℕ) (r : Result (Unit {0}) EncodeError) → f ≡ SmallOpenType start → MatchResult r (λ _. Adds (written (Oer.counted (drop (start + 1) o)) 0) (take start o) p) (λ e. e ≡ OutOfMemory) → MatchResult r (λ _. (k : List Frame) → Does ends (frame_of f ∷ k) o k p) (λ e. (k : List Frame) → Cannot ends (frame_of f ∷ k) o e)
+pub small_ends : (f : SmallFrame) (start : ℕ) (o p : List ℕ) (r : Result (Unit {0}) EncodeError) → f ≡ SmallOpenType start →
+    MatchResult r (λ _. Adds (written (Oer.counted (drop (start + 1) o)) 0) (take start o) p) (λ e. e ≡ OutOfMemory) →
+    MatchResult r (λ _. (k : List Frame) → Does ends (frame_of f ∷ k) o k p) (λ e. (k : List Frame) → Cannot ends (frame_of f ∷ k) o e)
 small_ends f start o p r e m = open_frame_ends (frame_of f) start o p r (ap frame_of e) m
 
 pub does_end_alternative : (fs rest : List Frame) (o : List ℕ) → fs ≡ Alternative ∷ rest → Does ends fs o rest o
@@ -80,21 +90,27 @@ unfolding written
 plain_text ms os = refl
 
 none_added : (ms : List Bool) (root : List ℕ) (bs : List Bool) (all : List ℕ) → is_any_set bs ≡ false → with_added ms root bs all ≡ Some (packed (padded (false ∷ ms)) ++ root)
-none_added ms root bs all h = ap (λ t. cond t (written (both (Oer.preamble (true ∷ ms)) (both (exactly root) (both (Oer.counted_bits bs) (exactly all)))) 0) (written (both (Oer.preamble (false ∷ ms)) (exactly root)) 0)) h ∙ plain_text ms root
+none_added ms root bs all h =
+    ap (λ t. cond t (written (both (Oer.preamble (true ∷ ms)) (both (exactly root) (both (Oer.counted_bits bs) (exactly all)))) 0)
+    (written (both (Oer.preamble (false ∷ ms)) (exactly root)) 0)) h ∙ plain_text ms root
 
 bitmap_text : (bs : List Bool) → written (Oer.bit_string_form false bs) 0 ≡ written (Oer.counted_bits bs) 0
 unfolding written Oer.bit_string_form
 bitmap_text bs = refl
 
-after_root : (ms bs : List Bool) (os c all : List ℕ) → ((p : ℕ) → written (Oer.counted_bits bs) p ≡ Some c) → written (both (Oer.preamble (true ∷ ms)) (both (exactly os) (both (Oer.counted_bits bs) (exactly all)))) 0 ≡ Some (packed (padded (true ∷ ms)) ++ (os ++ (c ++ all)))
+after_root : (ms bs : List Bool) (os c all : List ℕ) → ((p : ℕ) → written (Oer.counted_bits bs) p ≡ Some c) →
+    written (both (Oer.preamble (true ∷ ms)) (both (exactly os) (both (Oer.counted_bits bs) (exactly all)))) 0 ≡ Some (packed (padded (true ∷ ms)) ++ (os ++ (c ++ all)))
 unfolding written
 after_root ms bs os c all h =
     let front : List ℕ = packed (padded (true ∷ ms)) in
     let p : ℕ = 0 + length front + length os in
     ap (λ o. option_map (λ b. front ++ b) (option_map (λ b. os ++ b) (option_and_then (λ a. option_map (λ b. a ++ b) (Some all)) o))) (h p)
 
-some_added : (ms : List Bool) (root c : List ℕ) (bs : List Bool) (all : List ℕ) → is_any_set bs ≡ true → written (Oer.bit_string_form false bs) 0 ≡ Some c → with_added ms root bs all ≡ Some (packed (padded (true ∷ ms)) ++ (root ++ (c ++ all)))
-some_added ms root c bs all h k = ap (λ t. cond t (written (both (Oer.preamble (true ∷ ms)) (both (exactly root) (both (Oer.counted_bits bs) (exactly all)))) 0) (written (both (Oer.preamble (false ∷ ms)) (exactly root)) 0)) h ∙ after_root ms bs root c all (λ p. (counted_bits_still bs).at p ∙ sym (bitmap_text bs) ∙ k)
+some_added : (ms : List Bool) (root c : List ℕ) (bs : List Bool) (all : List ℕ) → is_any_set bs ≡ true →
+    written (Oer.bit_string_form false bs) 0 ≡ Some c → with_added ms root bs all ≡ Some (packed (padded (true ∷ ms)) ++ (root ++ (c ++ all)))
+some_added ms root c bs all h k =
+    ap (λ t. cond t (written (both (Oer.preamble (true ∷ ms)) (both (exactly root) (both (Oer.counted_bits bs) (exactly all)))) 0)
+    (written (both (Oer.preamble (false ∷ ms)) (exactly root)) 0)) h ∙ after_root ms bs root c all (λ p. (counted_bits_still bs).at p ∙ sym (bitmap_text bs) ∙ k)
 
 -- ---- the extension bit is set
 
@@ -143,7 +159,8 @@ module _ (a : Additions) (k : List Frame) (o p : List ℕ) (n : a.due ≡ 0) whe
   none_due : (s : State) → Holds (Added a ∷ k) o s → IsExtended (λ q t. Holds k q t) (with_due 0 a) o s
   none_due s h = subst (λ j. IsExtended (λ q t. Holds k q t) (with_due j a) o s) n h
 
-  closes : (s : State) → (h : IsExtended (λ q t. Holds k q t) (with_due 0 a) o s) → (w : List ℕ) → with_added h.preamble.presence_bits h.preamble.inner h.has.presence_bits h.has.inner ≡ Some w → h.preamble.front ++ w ≡ p → (t : State) × (run ends s ≡ Some t) × Holds k p t
+  closes : (s : State) → (h : IsExtended (λ q t. Holds k q t) (with_due 0 a) o s) → (w : List ℕ) →
+      with_added h.preamble.presence_bits h.preamble.inner h.has.presence_bits h.has.inner ≡ Some w → h.preamble.front ++ w ≡ p → (t : State) × (run ends s ≡ Some t) × Holds k p t
   closes s h w e q =
       let u : State = (h.outer.0 ++ w, h.outer.1) in
       (u, ap (run ends) h.is ∙ ap (λ t. adds_text t h.outer) e, subst (λ l. Holds k l u) q (appended k h.preamble.front h.outer w h.under))
@@ -158,7 +175,8 @@ module _ (a : Additions) (k : List Frame) (o p : List ℕ) (n : a.due ≡ 0) whe
           closes s h (packed (padded (false ∷ j.presence_bits)) ++ j.inner) (none_added j.presence_bits j.inner h.has.presence_bits h.has.inner (sym h.any ∙ none))
           (ap (λ l. j.front ++ (l ++ j.inner)) first ∙ sym j.text ∙ sym (x ∙ root_taken (with_due 0 a) o s h))
 
-  pub does_end_added : a.any ≡ true → p ≡ set o a.start (get_or p a.start 0) → binary 8 (get_or p a.start 0) ≡ set (binary 8 (get_or o a.start 0)) 0 true → ((i d : ℕ) → i < length p → get_or p i d < 256) → Does ends (Added a ∷ k) o k p
+  pub does_end_added : a.any ≡ true → p ≡ set o a.start (get_or p a.start 0) → binary 8 (get_or p a.start 0)
+      ≡ set (binary 8 (get_or o a.start 0)) 0 true → ((i d : ℕ) → i < length p → get_or p i d < 256) → Does ends (Added a ∷ k) o k p
   does_end_added some changed bit fits = record { after = λ s h. go s (none_due s h) }
     where
       go : (s : State) → IsExtended (λ q t. Holds k q t) (with_due 0 a) o s → (t : State) × (run ends s ≡ Some t) × Holds k p t
@@ -194,7 +212,9 @@ added_within fs rest a o s b h =
 pub added_frame_within : (f : Frame) (a : Additions) (o : List ℕ) → ((k : List Frame) × AreSound (f ∷ k) o) → f ≡ Added a → a.start < length o
 added_frame_within f a o h e = added_within (f ∷ h.0) h.0 a o h.1.state (ap (λ g. g ∷ h.0) e) h.1.holds
 
-pub added_frame_ends : (f : Frame) (a : Additions) (o p : List ℕ) (r : Result (Unit {0}) EncodeError) → f ≡ Added a → MatchResult r (λ _. (k : List Frame) → Does ends (Added a ∷ k) o k p) (λ e. (k : List Frame) → Cannot ends (Added a ∷ k) o e) → MatchResult r (λ _. (k : List Frame) → Does ends (f ∷ k) o k p) (λ e. (k : List Frame) → Cannot ends (f ∷ k) o e)
+pub added_frame_ends : (f : Frame) (a : Additions) (o p : List ℕ) (r : Result (Unit {0}) EncodeError) → f ≡ Added a →
+    MatchResult r (λ _. (k : List Frame) → Does ends (Added a ∷ k) o k p) (λ e. (k : List Frame) → Cannot ends (Added a ∷ k) o e) →
+    MatchResult r (λ _. (k : List Frame) → Does ends (f ∷ k) o k p) (λ e. (k : List Frame) → Cannot ends (f ∷ k) o e)
 added_frame_ends f a o p r e m = subst (λ g. MatchResult r (λ _. (k : List Frame) → Does ends (g ∷ k) o k p) (λ x. (k : List Frame) → Cannot ends (g ∷ k) o x)) (sym e) m
 
 -- what has ended is closed

@@ -11,7 +11,8 @@ texts_more : (xs : List Entry) (x : Entry) → texts_joined (map octets_of (xs +
 texts_more [] x = append-nil (octets_of x)
 texts_more (y ∷ ys) x = ap (λ l. octets_of y ++ l) (texts_more ys x) ∙ sym (append_assoc (octets_of y) (texts_joined (map octets_of ys)) (octets_of x))
 
-pub text_next : (old now new : List ℕ) (xs : List Entry) (i : ℕ) (d : Entry) → i < length xs → now ≡ old ++ texts_joined (map octets_of (take i xs)) → new ≡ now ++ octets_of (get_or xs i d) → new ≡ old ++ texts_joined (map octets_of (take (i + 1) xs))
+pub text_next : (old now new : List ℕ) (xs : List Entry) (i : ℕ) (d : Entry) → i < length xs → now ≡ old ++ texts_joined (map octets_of (take i xs)) →
+    new ≡ now ++ octets_of (get_or xs i d) → new ≡ old ++ texts_joined (map octets_of (take (i + 1) xs))
 text_next old now new xs i d h a b =
     let x = get_or xs i d in
     b ∙ ap (λ l. l ++ octets_of x) a ∙ append_assoc old (texts_joined (map octets_of (take i xs))) (octets_of x)

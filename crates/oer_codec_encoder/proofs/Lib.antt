@@ -1,6 +1,6 @@
 pub mod Stepped
 pub mod Scopes
-pub mod Fronts
+pub mod EarlierOctets
 pub mod AdditionScopes
 pub mod AlternativeScopes
 pub mod BagScopes

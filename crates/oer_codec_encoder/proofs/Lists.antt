@@ -18,23 +18,31 @@ pub length-each : {X : Type 0} (f : Value → X) (vs : Values) → length (each 
 length-each f no_more = refl
 length-each f (member v vs) = ap suc (length-each f vs)
 
-all_members : (s : Schema) → Bridges s → (vs : Values) (p : ℕ) (os : List ℕ) (k : List Scope) (rest : List Record) → runs (member_records (λ v. presents s v) vs ++ rest) (os, members (member_count vs) ∷ k) ≡ option_and_then (λ w. runs rest (os ++ w, k)) (written (joined (each (λ v. Oer.form s v) vs)) p)
+all_members : (s : Schema) → Bridges s → (vs : Values) (p : ℕ) (os : List ℕ) (k : List Scope) (rest : List Record) →
+    runs (member_records (λ v. presents s v) vs ++ rest) (os, members (member_count vs) ∷ k) ≡ option_and_then (λ w. runs rest (os ++ w, k)) (written (joined (each (λ v. Oer.form s v) vs)) p)
 unfolding written
 all_members s h no_more p os k rest = sym (ap (λ l. runs rest (l, k)) (append-nil os))
 all_members s h (member v vs) p os k rest =
     ap (λ l. runs l (os, members (member_count vs) ∷ k)) (append_assoc (presents s v) (member_records (λ v. presents s v) vs) rest)
     ∙ h v p os (members (member_count vs) ∷ k) (member_records (λ v. presents s v) vs ++ rest)
-    ∙ chain_same (written (Oer.form s v) p) _ (λ a. option_and_then (λ b. runs rest ((os ++ a) ++ b, k)) (written (joined (each (λ v. Oer.form s v) vs)) (p + length a))) (λ a. all_members s h vs (p + length a) (os ++ a) k rest)
+    ∙ chain_same (written (Oer.form s v) p) _ (λ a. option_and_then (λ b. runs rest ((os ++ a) ++ b, k))
+    (written (joined (each (λ v. Oer.form s v) vs)) (p + length a))) (λ a. all_members s h vs (p + length a) (os ++ a) k rest)
     ∙ two_texts (written (Oer.form s v) p) (λ a. written (joined (each (λ v. Oer.form s v) vs)) (p + length a)) os (λ w. runs rest (w, k))
 
-counted_members : (s : Schema) → Bridges s → (c : Bool) (vs : Values) (p : ℕ) (os : List ℕ) (k : List Scope) (rest : List Record) → option_and_then (λ m. runs (member_records (λ v. presents s v) vs ++ rest) m) (option_map {U = State} (λ w. (os ++ w, members (member_count vs) ∷ k)) (written (only_if c (Oer.unsigned (member_count vs))) 0)) ≡ option_and_then (λ w. runs rest (os ++ w, k)) (written (only_if c (both (Oer.unsigned (member_count vs)) (joined (each (λ v. Oer.form s v) vs)))) p)
+counted_members : (s : Schema) → Bridges s → (c : Bool) (vs : Values) (p : ℕ) (os : List ℕ) (k : List Scope) (rest : List Record) →
+    option_and_then (λ m. runs (member_records (λ v. presents s v) vs ++ rest) m)
+    (option_map {U = State} (λ w. (os ++ w, members (member_count vs) ∷ k)) (written (only_if c (Oer.unsigned (member_count vs))) 0))
+    ≡ option_and_then (λ w. runs rest (os ++ w, k)) (written (only_if c (both (Oer.unsigned (member_count vs)) (joined (each (λ v. Oer.form s v) vs)))) p)
 unfolding written
 counted_members s h false vs p os k rest = refl
 counted_members s h true vs p os k rest =
     go (written (Oer.unsigned (member_count vs)) 0)
-    ∙ ap (λ o. option_and_then (λ w. runs rest (os ++ w, k)) (option_and_then (λ a. option_map (λ b. a ++ b) (written (joined (each (λ v. Oer.form s v) vs)) (p + length a))) o)) (sym ((unsigned_still (member_count vs)).at p))
+    ∙ ap (λ o. option_and_then (λ w. runs rest (os ++ w, k))
+    (option_and_then (λ a. option_map (λ b. a ++ b) (written (joined (each (λ v. Oer.form s v) vs)) (p + length a))) o)) (sym ((unsigned_still (member_count vs)).at p))
   where
-    go : (o : Option (List ℕ)) → option_and_then (λ m. runs (member_records (λ v. presents s v) vs ++ rest) m) (option_map {U = State} (λ w. (os ++ w, members (member_count vs) ∷ k)) o) ≡ option_and_then (λ w. runs rest (os ++ w, k)) (option_and_then (λ a. option_map (λ b. a ++ b) (written (joined (each (λ v. Oer.form s v) vs)) (p + length a))) o)
+    go : (o : Option (List ℕ)) → option_and_then (λ m. runs (member_records (λ v. presents s v) vs ++ rest) m)
+        (option_map {U = State} (λ w. (os ++ w, members (member_count vs) ∷ k)) o) ≡ option_and_then (λ w. runs rest (os ++ w, k))
+        (option_and_then (λ a. option_map (λ b. a ++ b) (written (joined (each (λ v. Oer.form s v) vs)) (p + length a))) o)
     go None = refl
     go (Some a) = all_members s h vs (p + length a) (os ++ a) k rest ∙ two_texts (Some a) (λ a. written (joined (each (λ v. Oer.form s v) vs)) (p + length a)) os (λ w. runs rest (w, k))
 
@@ -42,5 +50,6 @@ pub lists : (z : Size) (h : Counts) (s : Schema) → Bridges s → Bridges (sequ
 unfolding presents Oer.form Oer.members_form written
 lists z h s b (in_list vs) p os k rest =
     counted_members s b (is_count_within h (member_count vs)) vs p os k rest
-    ∙ ap (λ n. option_and_then (λ w. runs rest (os ++ w, k)) (written (only_if (is_count_within h n) (both (Oer.unsigned n) (joined (each (λ v. Oer.form s v) vs)))) p)) (sym (length-each (λ v. Oer.form s v) vs))
+    ∙ ap (λ n. option_and_then (λ w. runs rest (os ++ w, k))
+    (written (only_if (is_count_within h n) (both (Oer.unsigned n) (joined (each (λ v. Oer.form s v) vs)))) p)) (sym (length-each (λ v. Oer.form s v) vs))
 lists z h s b v p os k rest = refl

@@ -3,7 +3,11 @@ use Rattle.std.proofs.Common.{◌≡◌, ℕ, zero, suc, not, ltb, Bool, true, f
 use Rattle.std.specs.Result.{IsErr, IsErrAnd}
 use Rattle.std.proofs.lemmas.Bool.{lt-ltb}
 use Rattle.asn1_schema_errors.specs.declared.EncodeError.{EncodeError}
-use Rattle.asn1_schema_errors.specs.declared.EncodeError.TheVariants.{ValueConstraintNotSatisfied, SizeConstraintNotSatisfied, AlphabetConstraintNotSatisfied, TooLongValue, LengthExceedsPlatformSize, CallOutOfPlace, OutOfMemory, AlreadyFailed}
+use Rattle.asn1_schema_errors.specs.declared.EncodeError.TheVariants.{ValueConstraintNotSatisfied}
+use Rattle.asn1_schema_errors.specs.declared.EncodeError.TheVariants.{SizeConstraintNotSatisfied}
+use Rattle.asn1_schema_errors.specs.declared.EncodeError.TheVariants.{AlphabetConstraintNotSatisfied, TooLongValue}
+use Rattle.asn1_schema_errors.specs.declared.EncodeError.TheVariants.{LengthExceedsPlatformSize, CallOutOfPlace}
+use Rattle.asn1_schema_errors.specs.declared.EncodeError.TheVariants.{OutOfMemory, AlreadyFailed}
 use Rattle.asn1_schema_laws.specs.Records.{Record, presence_bit, additions_begin, addition, addition_ends, further}
 use Rattle.oer_codec_encoder.specs.Steps.{components, open_type, bag_members, State, run}
 use Rattle.oer_codec_encoder.specs.declared.frame.Additions.{Additions}
@@ -47,7 +51,8 @@ cannot r fs o AlreadyFailed n h = absurd (n refl)
 pub no_addition_due : (fs : List Frame) (o : List ℕ) (present : Bool) → ((a : Additions) (k : List Frame) → fs ≡ Added a ∷ k → a.due ≡ 0) → (s : State) → Holds fs o s → run (addition present) s ≡ None
 no_addition_due [] o present n s h = ap (run (addition present)) h
 no_addition_due (Components c ∷ k) o present n s h = ap (run (addition present)) h.is
-no_addition_due (Added a ∷ k) o present n s h = ap (run (addition present)) (h.is ∙ ap (λ d. behind_root d h.has.inner h.preamble.presence_bits h.preamble.inner h.has.presence_bits h.outer) (n a k refl))
+no_addition_due (Added a ∷ k) o present n s h = ap (run (addition present))
+    (h.is ∙ ap (λ d. behind_root d h.has.inner h.preamble.presence_bits h.preamble.inner h.has.presence_bits h.outer) (n a k refl))
 no_addition_due (OpenType start ∷ k) o present n s h = ap (run (addition present)) h.is
 no_addition_due (Members due ∷ k) o present n s h = ap (run (addition present)) h.1
 no_addition_due (Bag b ∷ k) o present n s h = ap (run (addition present)) h.1
@@ -62,7 +67,8 @@ no_member_due fs rest due o more e n s h = go due more n (on_top fs rest (Member
     go (suc k) true n h = absurd (apart n (ap not (lt-ltb 0 (suc k) (omega arith))))
     go (suc k) false n h = ap (run (further false)) h.1
 
-pub no_member_of_bag : (fs rest : List Frame) (b : Box BagFrame Global) (o : List ℕ) (more : Bool) → fs ≡ Bag b ∷ rest → more ≡ not (ltb 0 b.value.due) → (s : State) → Holds fs o s → run (further more) s ≡ None
+pub no_member_of_bag : (fs rest : List Frame) (b : Box BagFrame Global) (o : List ℕ) (more : Bool) → fs ≡ Bag b ∷ rest →
+    more ≡ not (ltb 0 b.value.due) → (s : State) → Holds fs o s → run (further more) s ≡ None
 no_member_of_bag fs rest b o more e n s h = let i = on_top fs rest (Bag b) o s e h in go b.value.due more n i.0 i.1
   where
     go : (due : ℕ) (more : Bool) → more ≡ not (ltb 0 due) → (t : State) → s ≡ (o, bag_members due b.value.members t.0 ∷ t.1) → run (further more) s ≡ None
@@ -71,7 +77,8 @@ no_member_of_bag fs rest b o more e n s h = let i = on_top fs rest (Bag b) o s e
     go (suc k) true n t h = absurd (apart n (ap not (lt-ltb 0 (suc k) (omega arith))))
     go (suc k) false n t h = ap (run (further false)) h
 
-pub no_addition_end : (fs rest : List Frame) (o : List ℕ) (start : ℕ) → fs ≡ OpenType start ∷ rest → ((a : Additions) (k : List Frame) → rest ≡ Added a ∷ k → ⊥) → (s : State) → Holds fs o s → run addition_ends s ≡ None
+pub no_addition_end : (fs rest : List Frame) (o : List ℕ) (start : ℕ) → fs ≡ OpenType start ∷ rest →
+    ((a : Additions) (k : List Frame) → rest ≡ Added a ∷ k → ⊥) → (s : State) → Holds fs o s → run addition_ends s ≡ None
 no_addition_end fs rest o start e n s h = go rest n (on_top fs rest (OpenType start) o s e h)
   where
     go : (rest : List Frame) → ((a : Additions) (k : List Frame) → rest ≡ Added a ∷ k → ⊥) → Holds (OpenType start ∷ rest) o s → run addition_ends s ≡ None
@@ -83,9 +90,11 @@ no_addition_end fs rest o start e n s h = go rest n (on_top fs rest (OpenType st
     go (Bag b ∷ k) n h = ap (run addition_ends) (h.is ∙ ap (λ (b : State). let l : State = (h.inner, open_type b.0 ∷ b.1) in l) h.under.1)
     go (Alternative ∷ k) n h = ap (run addition_ends) (h.is ∙ ap (λ (b : State). let l : State = (h.inner, open_type b.0 ∷ b.1) in l) h.under.1)
 
-pub no_presence_bit_due : (fs : List Frame) (o : List ℕ) (present : Bool) → ((p : Preamble) (k : List Frame) → fs ≡ Components p ∷ k → p.due ≡ 0) → (s : State) → Holds fs o s → run (presence_bit present) s ≡ None
+pub no_presence_bit_due : (fs : List Frame) (o : List ℕ) (present : Bool) → ((p : Preamble) (k : List Frame) → fs ≡ Components p ∷ k → p.due ≡ 0) →
+    (s : State) → Holds fs o s → run (presence_bit present) s ≡ None
 no_presence_bit_due [] o present n s h = ap (run (presence_bit present)) h
-no_presence_bit_due (Components c ∷ k) o present n s h = ap (run (presence_bit present)) (h.is ∙ ap (λ d. let l : State = (h.has.inner, components c.extensible d h.has.presence_bits h.outer.0 ∷ h.outer.1) in l) (n c k refl))
+no_presence_bit_due (Components c ∷ k) o present n s h = ap (run (presence_bit present)) (h.is ∙
+    ap (λ d. let l : State = (h.has.inner, components c.extensible d h.has.presence_bits h.outer.0 ∷ h.outer.1) in l) (n c k refl))
 no_presence_bit_due (Added a ∷ k) o present n s h = ap (run (presence_bit present)) h.is
 no_presence_bit_due (OpenType start ∷ k) o present n s h = ap (run (presence_bit present)) h.is
 no_presence_bit_due (Members due ∷ k) o present n s h = ap (run (presence_bit present)) h.1

@@ -16,13 +16,16 @@ each_small (o ∷ os) h = ap (λ b. b && list_all is_octet os) (lt-ltb _ _ (h 0 
 set_whole : (o : List ℕ) (start n : ℕ) → start < length o → set o start n ≡ take start o ++ n ∷ drop (start + 1) o
 set_whole o start n l = sym (take-append-drop start (set o start n)) ∙ ap (λ t. t ++ drop start (set o start n)) (take-set o start n) ∙ ap (λ t. take start o ++ t) (drop-set o start n l)
 
-behind_set : (o : List ℕ) (start n : ℕ) → ((i d : ℕ) → i < length (set o start n) → get_or (set o start n) i d < 256) → (i : ℕ) → i < length (drop (start + 1) o) → get_or (drop (start + 1) o) i 0 < 256
+behind_set : (o : List ℕ) (start n : ℕ) → ((i d : ℕ) → i < length (set o start n) → get_or (set o start n) i d < 256) → (i : ℕ) →
+    i < length (drop (start + 1) o) → get_or (drop (start + 1) o) i 0 < 256
 behind_set o start n h i l =
-    let same : get_or (drop (start + 1) o) i 0 ≡ get_or (set o start n) (start + 1 + i) 0 = ap (λ t. get_or t i 0) (sym (drop-set-lt (start + 1) o start n (omega arith))) ∙ get_or-drop (start + 1) (set o start n) i 0 in
+    let same : get_or (drop (start + 1) o) i 0 ≡ get_or (set o start n) (start + 1 + i) 0 =
+    ap (λ t. get_or t i 0) (sym (drop-set-lt (start + 1) o start n (omega arith))) ∙ get_or-drop (start + 1) (set o start n) i 0 in
     let s = h (start + 1 + i) 0 (omega (arith, l, length-drop (start + 1) o, length-set o start n)) in
     omega (arith, same, s)
 
-in_room : (o : List ℕ) (start n : ℕ) → start < length o → n ≡ length o - start - 1 → n < 128 → ((i d : ℕ) → i < length (set o start n) → get_or (set o start n) i d < 256) → Adds (written (Oer.counted (drop (start + 1) o)) 0) (take start o) (set o start n)
+in_room : (o : List ℕ) (start n : ℕ) → start < length o → n ≡ length o - start - 1 → n < 128 →
+    ((i d : ℕ) → i < length (set o start n) → get_or (set o start n) i d < 256) → Adds (written (Oer.counted (drop (start + 1) o)) 0) (take start o) (set o start n)
 in_room o start n l e s h =
     let os : List ℕ = drop (start + 1) o in
     let count : length os ≡ n = length-drop (start + 1) o ∙ omega (arith, e) in
@@ -30,5 +33,7 @@ in_room o start n l e s h =
     (adds_text (written (Oer.length_form (length os)) 0) (n ∷ []) (take start o) (take start o ++ n ∷ []) (ap (λ k. written (Oer.length_form k) 0) count ∙ short_length n s) refl)
     (set_whole o start n l ∙ sym (append_assoc (take start o) (n ∷ []) os))
 
-pub short_in_room : (o p : List ℕ) (start n : ℕ) → start < length o → n ≡ length o - start - 1 → n < 128 → p ≡ set o start n → ((i d : ℕ) → i < length p → get_or p i d < 256) → Adds (written (Oer.counted (drop (start + 1) o)) 0) (take start o) p
-short_in_room o p start n l e s x h = subst (λ q. Adds (written (Oer.counted (drop (start + 1) o)) 0) (take start o) q) (sym x) (in_room o start n l e s (subst (λ q. (i d : ℕ) → i < length q → get_or q i d < 256) x h))
+pub short_in_room : (o p : List ℕ) (start n : ℕ) → start < length o → n ≡ length o - start - 1 → n < 128 → p ≡ set o start n →
+    ((i d : ℕ) → i < length p → get_or p i d < 256) → Adds (written (Oer.counted (drop (start + 1) o)) 0) (take start o) p
+short_in_room o p start n l e s x h = subst (λ q. Adds (written (Oer.counted (drop (start + 1) o)) 0) (take start o) q) (sym x)
+    (in_room o start n l e s (subst (λ q. (i d : ℕ) → i < length q → get_or q i d < 256) x h))

@@ -1,8 +1,12 @@
 -- Sequences and lists that begin, continue and end, in the octets and the frames of an encoder.
-use Rattle.std.proofs.Common.{◌≡◌, ℕ, zero, suc, ◌+◌, ◌-◌, ◌*◌, ◌/◌, ◌%◌, ◌^◌, ◌<◌, Bool, true, false, cond, ltb, List, [], ◌∷◌, ◌++◌, length, get_or, set, take, drop, replicate, Option, Some, None, option_map, refl, ap, subst, sym, ◌∙◌, arith, append_assoc, length-append, length-set, inl, inr}
+use Rattle.std.proofs.Common.{◌≡◌, ℕ, zero, suc, ◌+◌, ◌-◌, ◌*◌, ◌/◌, ◌%◌, ◌^◌, ◌<◌, Bool, true, false, cond, ltb, List}
+use Rattle.std.proofs.Common.{[], ◌∷◌, ◌++◌, length, get_or, set, take, drop, replicate, Option, Some, None, option_map}
+use Rattle.std.proofs.Common.{refl, ap, subst, sym, ◌∙◌, arith, append_assoc, length-append, length-set, inl, inr}
 use mir.Val.{bool_byte}
 use Rattle.std.proofs.lemmas.Bool.{cases_eq, ltb-true, ltb-false}
-use Rattle.std.proofs.lemmas.List.{append-nil, get_or-set_same, get_or-set_other, set-append_left, set-append_right, get_or-append_right, get_or_append_left, take_at, drop_at, length-replicate, replicate-append-replicate}
+use Rattle.std.proofs.lemmas.List.{append-nil, get_or-set_same, get_or-set_other, set-append_left, set-append_right}
+use Rattle.std.proofs.lemmas.List.{get_or-append_right, get_or_append_left, take_at, drop_at, length-replicate}
+use Rattle.std.proofs.lemmas.List.{replicate-append-replicate}
 use Rattle.asn1_model.specs.Numbers.{binary, octet_bits, missing, packed, is_count_within}
 use Rattle.asn1_values_bits.specs.Octets.{padded}
 use Rattle.asn1_values_bits.proofs.Binary.{octet_bits-append, length-octet_bits}
@@ -50,16 +54,19 @@ length-bitmap e due given start o h =
     let bs : List Bool = preamble e (h.presence_bits ++ zeros) in
     let unused : List Bool = replicate (missing (length bs)) false in
     let n : length bs ≡ given + due + cond e 1 0 = omega (arith, length-preamble e (h.presence_bits ++ zeros), length-append h.presence_bits zeros, length-replicate due false, h.told) in
-    let k : length h.bitmap * 8 ≡ length bs + missing (length bs) = sym (length-octet_bits h.bitmap) ∙ ap length h.bits ∙ length-append bs unused ∙ ap (λ j. length bs + j) (length-replicate (missing (length bs)) false) in
+    let k : length h.bitmap * 8 ≡ length bs + missing (length bs) = sym (length-octet_bits h.bitmap) ∙ ap length h.bits ∙ length-append bs unused ∙
+    ap (λ j. length bs + j) (length-replicate (missing (length bs)) false) in
     octets_whole (length h.bitmap) (length bs) k ∙ ap (λ j. (j + 7) / 8) n
 
 -- the octets before presence bits, those after them, and the bits that were given
-pub parts : (e : Bool) (due given start n : ℕ) (o : List ℕ) → n ≡ given + due → (h : HasBits e due given start o) → (take start o ≡ h.front) × (drop (start + octets_filled e n) o ≡ h.inner) × (given_bits e given start o ≡ h.presence_bits)
+pub parts : (e : Bool) (due given start n : ℕ) (o : List ℕ) → n ≡ given + due → (h : HasBits e due given start o) → (take start o ≡ h.front) ×
+    (drop (start + octets_filled e n) o ≡ h.inner) × (given_bits e given start o ≡ h.presence_bits)
 parts e due given start n o m h =
     let front : take start o ≡ h.front = ap (take start) h.text ∙ take_at h.front (h.bitmap ++ h.inner) start h.starts in
     let behind : drop start o ≡ h.bitmap ++ h.inner = ap (drop start) h.text ∙ drop_at h.front (h.bitmap ++ h.inner) start h.starts in
     let whole : o ≡ (h.front ++ h.bitmap) ++ h.inner = h.text ∙ sym (append_assoc h.front h.bitmap h.inner) in
-    let long : length (h.front ++ h.bitmap) ≡ start + octets_filled e n = length-append h.front h.bitmap ∙ ap (λ k. k + length h.bitmap) h.starts ∙ ap (λ k. start + k) (length-bitmap e due given start o h ∙ ap (octets_filled e) (sym m)) in
+    let long : length (h.front ++ h.bitmap) ≡ start + octets_filled e n = length-append h.front h.bitmap ∙ ap (λ k. k + length h.bitmap) h.starts ∙
+    ap (λ k. start + k) (length-bitmap e due given start o h ∙ ap (octets_filled e) (sym m)) in
     let inner : drop (start + octets_filled e n) o ≡ h.inner = ap (drop (start + octets_filled e n)) whole ∙ drop_at (h.front ++ h.bitmap) h.inner (start + octets_filled e n) long in
     let zeros : List Bool = replicate due false in
     let unused : List Bool = replicate (missing (length (preamble e (h.presence_bits ++ zeros)))) false in
@@ -82,7 +89,8 @@ root_taken a o s h = ap (take a.root_end) (root_first a o s h) ∙ take_at h.roo
 abbrev pub behind_root : ℕ → List ℕ → List Bool → List ℕ → List Bool → State → State
 behind_root due os ms root bs t = (os, added due ms root bs t.0 ∷ t.1)
 
-same_behind : (due : ℕ) (i j : List ℕ) (ms ns : List Bool) (r q : List ℕ) (bs cs : List Bool) (t u : State) → i ≡ j → ms ≡ ns → r ≡ q → bs ≡ cs → t ≡ u → behind_root due i ms r bs t ≡ behind_root due j ns q cs u
+same_behind : (due : ℕ) (i j : List ℕ) (ms ns : List Bool) (r q : List ℕ) (bs cs : List Bool) (t u : State) → i ≡ j → ms ≡ ns → r ≡ q → bs ≡ cs →
+    t ≡ u → behind_root due i ms r bs t ≡ behind_root due j ns q cs u
 same_behind due i j ms ns r q bs cs t u a b c d e =
     ap (λ x. behind_root due x ms r bs t) a ∙ ap (λ x. behind_root due j x r bs t) b ∙ ap (λ x. behind_root due j ns x bs t) c
     ∙ ap (λ x. behind_root due j ns q x t) d ∙ ap (λ x. behind_root due j ns q cs x) e
@@ -117,7 +125,8 @@ shown_is (Added a ∷ fs) o s h =
     let x = parts false a.due a.given a.bitmap (a.given + a.due) o refl i in
     let y = parts true 0 a.optional a.start a.optional h.root (omega arith) h.preamble in
     let below : shown fs (take a.start h.root) ≡ h.outer = ap (shown fs) y.0 ∙ shown_is fs h.preamble.front h.outer h.under in
-    ap (λ r. behind_root a.due (drop (a.bitmap + octets_filled false (a.given + a.due)) o) (given_bits true a.optional a.start r) (drop (a.start + octets_filled true a.optional) r) (given_bits false a.given a.bitmap o) (shown fs (take a.start r))) (root_taken a o s h)
+    ap (λ r. behind_root a.due (drop (a.bitmap + octets_filled false (a.given + a.due)) o) (given_bits true a.optional a.start r)
+    (drop (a.start + octets_filled true a.optional) r) (given_bits false a.given a.bitmap o) (shown fs (take a.start r))) (root_taken a o s h)
     ∙ same_behind a.due _ i.inner _ h.preamble.presence_bits _ h.preamble.inner _ i.presence_bits _ h.outer x.1 y.2 y.1 x.2 below ∙ sym h.is
 shown_is (OpenType start ∷ fs) o s h =
     let x = parts_apart start o s h in
@@ -227,11 +236,14 @@ all_due o e n k start m d a = record {
 abbrev fresh : Bool → ℕ → ℕ → Preamble
 fresh e n start = record { extensible = e; due = n; given = 0; start = start }
 
-opened : (fs : List Frame) (o : List ℕ) (s : State) (e : Bool) (n k start : ℕ) → Holds fs o s → n < 2 ^ 64 → k * 8 ≡ (n + cond e 1 0) + missing (n + cond e 1 0) → start ≡ length o → Holds (Components (fresh e n start) ∷ fs) (o ++ replicate k 0) ([], components e n [] s.0 ∷ s.1)
+opened : (fs : List Frame) (o : List ℕ) (s : State) (e : Bool) (n k start : ℕ) → Holds fs o s → n < 2 ^ 64 →
+    k * 8 ≡ (n + cond e 1 0) + missing (n + cond e 1 0) → start ≡ length o → Holds (Components (fresh e n start) ∷ fs) (o ++ replicate k 0) ([], components e n [] s.0 ∷ s.1)
 opened fs o s e n k start h m d a = record { has = all_due o e n k start m d a; outer = s; under = h; is = refl }
 
-pub does_begin : (fs gs : List Frame) (o p : List ℕ) (e : Bool) (n k start : ℕ) → n < 2 ^ 64 → k * 8 ≡ (n + cond e 1 0) + missing (n + cond e 1 0) → start ≡ length o → p ≡ o ++ replicate k 0 → gs ≡ Components (fresh e n start) ∷ fs → Does (sequence_begins e n) fs o gs p
-does_begin fs gs o p e n k start m d a x y = record { after = λ s h. (opens s, refl, put_back gs fs _ p (opens s) y (subst (λ l. Holds (Components (fresh e n start) ∷ fs) l (opens s)) (sym x) (opened fs o s e n k start h m d a))) }
+pub does_begin : (fs gs : List Frame) (o p : List ℕ) (e : Bool) (n k start : ℕ) → n < 2 ^ 64 → k * 8 ≡ (n + cond e 1 0) + missing (n + cond e 1 0) →
+    start ≡ length o → p ≡ o ++ replicate k 0 → gs ≡ Components (fresh e n start) ∷ fs → Does (sequence_begins e n) fs o gs p
+does_begin fs gs o p e n k start m d a x y =
+    record { after = λ s h. (opens s, refl, put_back gs fs _ p (opens s) y (subst (λ l. Holds (Components (fresh e n start) ∷ fs) l (opens s)) (sym x) (opened fs o s e n k start h m d a))) }
   where
     opens : State → State
     opens s = ([], components e n [] s.0 ∷ s.1)
@@ -307,16 +319,19 @@ module _ (e : Bool) (d given start : ℕ) (o : List ℕ) (h : HasBits e (suc d) 
       changed ∙ ap (λ l. set l (start + i / 8) x) h.text ∙ set-append_right h.front (h.bitmap ++ h.inner) start (start + i / 8) x h.starts (omega arith)
       ∙ ap (λ j. h.front ++ set (h.bitmap ++ h.inner) j x) k ∙ ap (λ l. h.front ++ l) (set-append_left h.bitmap h.inner (i / 8) x (within_bitmap i n))
 
-  pub raised_map : (i x : ℕ) → i ≡ given + cond e 1 0 → binary 8 x ≡ set (binary 8 (get_or o (start + i / 8) 0)) (i % 8) true → octet_bits (set h.bitmap (i / 8) x) ≡ padded (preamble e ((h.presence_bits ++ true ∷ []) ++ replicate d false))
+  pub raised_map : (i x : ℕ) → i ≡ given + cond e 1 0 → binary 8 x ≡ set (binary 8 (get_or o (start + i / 8) 0)) (i % 8) true →
+      octet_bits (set h.bitmap (i / 8) x) ≡ padded (preamble e ((h.presence_bits ++ true ∷ []) ++ replicate d false))
   raised_map i x n bit =
       let y : ℕ = get_or o (start + i / 8) 0 in
       let place : i ≡ length h.presence_bits + cond e 1 0 = omega (arith, h.told) in
       let raised = raised_bits e h.presence_bits d i place in
       let long : length due_bits ≡ length (preamble e ((h.presence_bits ++ true ∷ []) ++ replicate d false)) = sym (length-set due_bits i true) ∙ ap length raised in
-      kept_changed h.bitmap due_bits (length due_bits) i y x true h.bits refl (within_bits i n) (get_or_any o (start + i / 8) (within_octets i n) ∙ octet_at i y n) bit ∙ ap (λ l. l ++ replicate (missing (length due_bits)) false) raised
+      kept_changed h.bitmap due_bits (length due_bits) i y x true h.bits refl (within_bits i n) (get_or_any o (start + i / 8) (within_octets i n) ∙
+      octet_at i y n) bit ∙ ap (λ l. l ++ replicate (missing (length due_bits)) false) raised
       ∙ ap (λ m. preamble e ((h.presence_bits ++ true ∷ []) ++ replicate d false) ++ replicate (missing m) false) long
 
-  abbrev pub with_present : (p : List ℕ) (i : ℕ) → i ≡ given + cond e 1 0 → p ≡ set o (start + i / 8) (get_or p (start + i / 8) 0) → binary 8 (get_or p (start + i / 8) 0) ≡ set (binary 8 (get_or o (start + i / 8) 0)) (i % 8) true → get_or p (start + i / 8) 0 < 256 → HasBits e d (given + 1) start p
+  abbrev pub with_present : (p : List ℕ) (i : ℕ) → i ≡ given + cond e 1 0 → p ≡ set o (start + i / 8) (get_or p (start + i / 8) 0) →
+      binary 8 (get_or p (start + i / 8) 0) ≡ set (binary 8 (get_or o (start + i / 8) 0)) (i % 8) true → get_or p (start + i / 8) 0 < 256 → HasBits e d (given + 1) start p
   with_present p i n changed bit small = record {
     front = h.front;
     bitmap = set h.bitmap (i / 8) (get_or p (start + i / 8) 0);
@@ -348,17 +363,28 @@ module _ (fs rest : List Frame) (c : Preamble) (o : List ℕ) (a : fs ≡ Compon
   does_presence_bit_absent gs b = record { after = λ s h. go s (next_due s h) }
     where
       go : (s : State) → IsOpen (λ q t. Holds rest q t) c.extensible (suc (c.due - 1)) c.given c.start o s → (t : State) × (run (presence_bit false) s ≡ Some t) × Holds gs o t
-      go s h = (then_state s h false, ap (run (presence_bit false)) h.is, put_back gs rest (Components (told c)) o (then_state s h false) b (record { has = with_absent c.extensible (c.due - 1) c.given c.start o h.has; outer = h.outer; under = h.under; is = refl }))
+      go s h = (
+        then_state s h false,
+        ap (run (presence_bit false)) h.is,
+        put_back gs rest (Components (told c)) o (then_state s h false) b
+            (record { has = with_absent c.extensible (c.due - 1) c.given c.start o h.has; outer = h.outer; under = h.under; is = refl }),
+      )
 
-  pub does_presence_bit_present : (gs : List Frame) (p : List ℕ) (i : ℕ) → gs ≡ Components (told c) ∷ rest → i ≡ c.given + cond c.extensible 1 0 → p ≡ set o (c.start + i / 8) (get_or p (c.start + i / 8) 0) → binary 8 (get_or p (c.start + i / 8) 0) ≡ set (binary 8 (get_or o (c.start + i / 8) 0)) (i % 8) true → ((j d : ℕ) → j < length p → get_or p j d < 256) → Does (presence_bit true) fs o gs p
+  pub does_presence_bit_present : (gs : List Frame) (p : List ℕ) (i : ℕ) → gs ≡ Components (told c) ∷ rest → i ≡ c.given + cond c.extensible 1 0 →
+      p ≡ set o (c.start + i / 8) (get_or p (c.start + i / 8) 0) → binary 8 (get_or p (c.start + i / 8) 0)
+      ≡ set (binary 8 (get_or o (c.start + i / 8) 0)) (i % 8) true → ((j d : ℕ) → j < length p → get_or p j d < 256) → Does (presence_bit true) fs o gs p
   does_presence_bit_present gs p i b place others bit small = record { after = λ s h. go s (next_due s h) }
     where
       go : (s : State) → IsOpen (λ q t. Holds rest q t) c.extensible (suc (c.due - 1)) c.given c.start o s → (t : State) × (run (presence_bit true) s ≡ Some t) × Holds gs p t
       go s h =
           let at : ℕ = c.start + i / 8 in
           let l = within_octets c.extensible (c.due - 1) c.given c.start o h.has i place in
-          let octet : get_or p at 0 < 256 = small at 0 (omega (arith, l, ap length others, length-set o at (get_or p at 0))) in
-          (then_state s h true, ap (run (presence_bit true)) h.is, put_back gs rest (Components (told c)) p (then_state s h true) b (record { has = with_present c.extensible (c.due - 1) c.given c.start o h.has p i place others bit octet; outer = h.outer; under = h.under; is = refl }))
+          let octet : get_or p at 0 < 256 = small at 0 (omega (arith, l, ap length others, length-set o at (get_or p at 0))) in (
+            then_state s h true,
+            ap (run (presence_bit true)) h.is,
+            put_back gs rest (Components (told c)) p (then_state s h true) b
+                (record { has = with_present c.extensible (c.due - 1) c.given c.start o h.has p i place others bit octet; outer = h.outer; under = h.under; is = refl }),
+          )
 
   pub presence_bit_within : (i : ℕ) → AreSound fs o → i ≡ c.given + cond c.extensible 1 0 → c.start + i / 8 < length o
   presence_bit_within i s place = within_octets c.extensible (c.due - 1) c.given c.start o (next_due s.state s.holds).has i place
@@ -388,7 +414,11 @@ unfolding written Oer.sequence_form
 sequence_text ms os = refl
 
 pub does_end_components : (fs rest : List Frame) (c : Preamble) (o : List ℕ) → fs ≡ Components c ∷ rest → c.extensible ≡ false → c.due ≡ 0 → Does ends fs o rest o
-does_end_components fs rest c o a f n = record { after = λ s h. go s (subst (λ x. IsOpen (λ q t. Holds rest q t) x 0 c.given c.start o s) f (subst (λ k. IsOpen (λ q t. Holds rest q t) c.extensible k c.given c.start o s) n (on_top fs rest (Components c) o s a h))) }
+does_end_components fs rest c o a f n =
+    record {
+      after = λ s h. go s (subst (λ x. IsOpen (λ q t. Holds rest q t) x 0 c.given c.start o s) f
+          (subst (λ k. IsOpen (λ q t. Holds rest q t) c.extensible k c.given c.start o s) n (on_top fs rest (Components c) o s a h)));
+    }
   where
     go : (s : State) → IsOpen (λ q t. Holds rest q t) false 0 c.given c.start o s → (t : State) × (run ends s ≡ Some t) × Holds rest o t
     go s h =
@@ -405,15 +435,21 @@ does_end_members fs rest due o a n = record { after = λ s h. go s (subst (λ k.
     go : (s : State) → Holds (Members 0 ∷ rest) o s → (t : State) × (run ends s ≡ Some t) × Holds rest o t
     go s h = (h.0, ap (run ends) h.1, h.2)
 
-pub does_begin_members : (fs gs : List Frame) (o p : List ℕ) (z : Size) (h : Counts) (n : ℕ) → Adds (written (only_if (is_count_within h n) (Oer.unsigned n)) 0) o p → gs ≡ Members n ∷ fs → Does (list_begins z h n) fs o gs p
+pub does_begin_members : (fs gs : List Frame) (o p : List ℕ) (z : Size) (h : Counts) (n : ℕ) →
+    Adds (written (only_if (is_count_within h n) (Oer.unsigned n)) 0) o p → gs ≡ Members n ∷ fs → Does (list_begins z h n) fs o gs p
 does_begin_members fs gs o p z h n x y = record { after = λ s d. go s d (written (only_if (is_count_within h n) (Oer.unsigned n)) 0) refl x }
   where
-    go : (s : State) → Holds fs o s → (t : Option (List ℕ)) → written (only_if (is_count_within h n) (Oer.unsigned n)) 0 ≡ t → Adds t o p → (u : State) × (run (list_begins z h n) s ≡ Some u) × Holds gs p u
+    go : (s : State) → Holds fs o s → (t : Option (List ℕ)) → written (only_if (is_count_within h n) (Oer.unsigned n)) 0 ≡ t → Adds t o p →
+        (u : State) × (run (list_begins z h n) s ≡ Some u) × Holds gs p u
     go s d None e a = cc
     go s d (Some w) e a =
         let u : State = (s.0 ++ w, members n ∷ s.1) in
-        let b : o ++ w ≡ p = cc a in
-        (u, ap (option_map (λ l. let v : State = (s.0 ++ l, members n ∷ s.1) in v)) e, put_back gs fs (Members n) p u y ((s.0 ++ w, s.1), refl, subst (λ l. Holds fs l (s.0 ++ w, s.1)) b (appended fs o s w d)))
+        let b : o ++ w ≡ p = cc a in (
+          u,
+          ap (option_map (λ l. let v : State = (s.0 ++ l, members n ∷ s.1) in v)) e,
+          put_back gs fs (Members n) p u y
+              ((s.0 ++ w, s.1), refl, subst (λ l. Holds fs l (s.0 ++ w, s.1)) b (appended fs o s w d)),
+        )
 
 pub raised_at : (os : List ℕ) (i y x r : ℕ) → i < length os → y ≡ get_or os i y → binary 8 x ≡ set (binary 8 y) r true → binary 8 (get_or (set os i x) i 0) ≡ set (binary 8 (get_or os i 0)) r true
 raised_at os i y x r h a b =
@@ -431,7 +467,8 @@ byte_of false = refl
 pub with_extension_byte : (given n : ℕ) (e : Bool) → n ≡ bool_byte e → given + n ≡ given + cond e 1 0
 with_extension_byte given n e h = ap (λ k. given + k) (h ∙ byte_of e)
 
-pub does_whether_further : (fs rest gs : List Frame) (due next : ℕ) (o : List ℕ) (b : Bool) → fs ≡ Members due ∷ rest → b ≡ ltb 0 due → next ≡ due - cond b 1 0 → gs ≡ Members next ∷ rest → Does (further b) fs o gs o
+pub does_whether_further : (fs rest gs : List Frame) (due next : ℕ) (o : List ℕ) (b : Bool) → fs ≡ Members due ∷ rest → b ≡ ltb 0 due →
+    next ≡ due - cond b 1 0 → gs ≡ Members next ∷ rest → Does (further b) fs o gs o
 does_whether_further fs rest gs due next o true a n d e = does_further fs rest gs due o a (ltb-true _ _ (sym n)) (e ∙ ap (λ (j : ℕ). Members j ∷ rest) d)
 does_whether_further fs rest gs due next o false a n d e =
     let z : due ≡ 0 = let l = ltb-false _ _ (sym n) in omega arith in

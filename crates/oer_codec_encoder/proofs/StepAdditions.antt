@@ -1,5 +1,7 @@
 -- Additions: each is an open type after its length determinant, with a bitmap before all of them.
-use Rattle.std.proofs.Common.{◌≡◌, ℕ, suc, ◌+◌, ltb, take, drop, arith, Bool, true, false, cond, List, [], ◌∷◌, ◌++◌, length, map, Option, Some, None, option_map, option_and_then, refl, ap, sym, ◌∙◌, append_assoc}
+use Rattle.std.proofs.Common.{◌≡◌, ℕ, suc, ◌+◌, ltb, take, drop, arith, Bool, true, false, cond, List, [], ◌∷◌, ◌++◌}
+use Rattle.std.proofs.Common.{length, map, Option, Some, None, option_map, option_and_then, refl, ap, sym, ◌∙◌}
+use Rattle.std.proofs.Common.{append_assoc}
 use Rattle.std.proofs.lemmas.List.{append-nil}
 use Rattle.asn1_model.specs.Value.{Value, fields, Parts, end, absent, present}
 use Rattle.asn1_model.specs.Schema.{Tag, Presence, Schema, sequence, set, Components, no_component, component}
@@ -52,11 +54,13 @@ all_covered unknown xs =
     let l : ltb (length xs) (length xs + 1) ≡ true = lt-ltb _ _ (omega arith) in
     rw (d, l, t) (ap Some (append-nil xs))
 
-own : (ms : List Bool) (x : Oer.OctetForm) (xs : List (Option Oer.OctetForm)) (p : ℕ) → written (Oer.sequence_form true ms x xs) p ≡ cond (is_any_present xs) (written (Oer.with_additions ms x xs) p) (written (both (Oer.preamble (false ∷ ms)) x) p)
+own : (ms : List Bool) (x : Oer.OctetForm) (xs : List (Option Oer.OctetForm)) (p : ℕ) → written (Oer.sequence_form true ms x xs) p
+    ≡ cond (is_any_present xs) (written (Oer.with_additions ms x xs) p) (written (both (Oer.preamble (false ∷ ms)) x) p)
 unfolding written Oer.sequence_form Oer.bitmapped
 own ms x xs p = go (is_any_present xs) refl
   where
-    go : (t : Bool) → is_any_present xs ≡ t → written (Oer.bitmapped ms x xs (cond t (Some (record { covered = length xs; further = [] })) None)) p ≡ cond t (written (Oer.with_additions ms x xs) p) (written (both (Oer.preamble (false ∷ ms)) x) p)
+    go : (t : Bool) → is_any_present xs ≡ t → written (Oer.bitmapped ms x xs (cond t (Some (record { covered = length xs; further = [] })) None)) p
+        ≡ cond t (written (Oer.with_additions ms x xs) p) (written (both (Oer.preamble (false ∷ ms)) x) p)
     go false e = rw e refl
     go true e = let c = all_covered Oer.counted xs in rw (c, e) refl
 
@@ -94,12 +98,14 @@ unfolding written
 alike [] us h e = let z : us ≡ [] = cc in rw z (record { any = refl; bits = refl; text = λ p. refl })
 alike (None ∷ xs) us h e = go (λ vs f. alike xs vs h f) (texts_of xs) refl e
   where
-    go : ((vs : List (Option (List ℕ))) → texts_of xs ≡ Some vs → Alike xs vs) → (t : Option (List (Option (List ℕ)))) → texts_of xs ≡ t → option_map (λ us. None ∷ us) t ≡ Some us → Alike (None ∷ xs) us
+    go : ((vs : List (Option (List ℕ))) → texts_of xs ≡ Some vs → Alike xs vs) → (t : Option (List (Option (List ℕ)))) → texts_of xs ≡ t →
+        option_map (λ us. None ∷ us) t ≡ Some us → Alike (None ∷ xs) us
     go again None f g = cc
     go again (Some vs) f g = let z : us ≡ None ∷ vs = cc in let a = again vs f in rw z (record { any = a.any; bits = ap (λ l. false ∷ l) a.bits; text = a.text })
 alike (Some x ∷ xs) us h e = go (λ vs f. alike xs vs h.1 f) (written x 0) refl (texts_of xs) refl e
   where
-    go : ((vs : List (Option (List ℕ))) → texts_of xs ≡ Some vs → Alike xs vs) → (o : Option (List ℕ)) → written x 0 ≡ o → (t : Option (List (Option (List ℕ)))) → texts_of xs ≡ t → option_and_then (λ w. option_map (λ us. Some w ∷ us) t) o ≡ Some us → Alike (Some x ∷ xs) us
+    go : ((vs : List (Option (List ℕ))) → texts_of xs ≡ Some vs → Alike xs vs) → (o : Option (List ℕ)) → written x 0 ≡ o →
+        (t : Option (List (Option (List ℕ)))) → texts_of xs ≡ t → option_and_then (λ w. option_map (λ us. Some w ∷ us) t) o ≡ Some us → Alike (Some x ∷ xs) us
     go again None d t f g = cc
     go again (Some w) d None f g = cc
     go again (Some w) d (Some vs) f g =
@@ -108,21 +114,39 @@ alike (Some x ∷ xs) us h e = go (λ vs f. alike xs vs h.1 f) (written x 0) ref
         rw z (record {
           any = refl;
           bits = ap (λ l. true ∷ l) a.bits;
-          text = λ p. ap (λ o. option_and_then (λ a. option_map (λ b. a ++ b) (written (joined (present_ones xs)) (p + length a))) o) (h.0.at p ∙ d) ∙ ap (λ o. option_map (λ b. w ++ b) o) (a.text (p + length w));
+          text = λ p. ap (λ o. option_and_then (λ a. option_map (λ b. a ++ b) (written (joined (present_ones xs)) (p + length a))) o) (h.0.at p ∙ d) ∙
+              ap (λ o. option_map (λ b. w ++ b) o) (a.text (p + length w));
         })
 
 -- the preamble, the root, the bitmap and the additions
-sum : (ms : List Bool) (x : Oer.OctetForm) (bs : List Bool) (j : Oer.OctetForm) (all : List ℕ) → OctetsStill x → ((p : ℕ) → written j p ≡ Some all) → (p : ℕ) → written (both (Oer.preamble (true ∷ ms)) (both x (both (Oer.counted_bits bs) j))) p ≡ option_and_then (λ r. option_map (λ c. preamble_octets (true ∷ ms) ++ (r ++ (c ++ all))) (written (Oer.counted_bits bs) 0)) (written x 0)
+sum : (ms : List Bool) (x : Oer.OctetForm) (bs : List Bool) (j : Oer.OctetForm) (all : List ℕ) → OctetsStill x → ((p : ℕ) → written j p ≡ Some all) →
+    (p : ℕ) → written (both (Oer.preamble (true ∷ ms)) (both x (both (Oer.counted_bits bs) j))) p
+    ≡ option_and_then (λ r. option_map (λ c. preamble_octets (true ∷ ms) ++ (r ++ (c ++ all))) (written (Oer.counted_bits bs) 0)) (written x 0)
 unfolding written
-sum ms x bs j all hx hj p = ap (λ o. option_map (λ b. preamble_octets (true ∷ ms) ++ b) (option_and_then (λ r. option_map (λ b. r ++ b) (option_and_then (λ c. option_map (λ b. c ++ b) (written j (p + length (preamble_octets (true ∷ ms)) + length r + length c))) (written (Oer.counted_bits bs) (p + length (preamble_octets (true ∷ ms)) + length r)))) o)) (hx.at (p + length (preamble_octets (true ∷ ms)))) ∙ go (written x 0)
+sum ms x bs j all hx hj p =
+    ap (λ o. option_map (λ b. preamble_octets (true ∷ ms) ++ b)
+    (option_and_then (λ r. option_map (λ b. r ++ b)
+    (option_and_then (λ c. option_map (λ b. c ++ b) (written j (p + length (preamble_octets (true ∷ ms)) + length r + length c)))
+    (written (Oer.counted_bits bs) (p + length (preamble_octets (true ∷ ms)) + length r)))) o)) (hx.at (p + length (preamble_octets (true ∷ ms)))) ∙ go (written x 0)
   where
-    inner : (r : List ℕ) (o : Option (List ℕ)) → option_map (λ b. preamble_octets (true ∷ ms) ++ b) (option_map (λ b. r ++ b) (option_and_then (λ c. option_map (λ b. c ++ b) (written j (p + length (preamble_octets (true ∷ ms)) + length r + length c))) o)) ≡ option_map (λ c. preamble_octets (true ∷ ms) ++ (r ++ (c ++ all))) o
+    inner : (r : List ℕ) (o : Option (List ℕ)) → option_map (λ b. preamble_octets (true ∷ ms) ++ b)
+        (option_map (λ b. r ++ b)
+        (option_and_then (λ c. option_map (λ b. c ++ b) (written j (p + length (preamble_octets (true ∷ ms)) + length r + length c))) o))
+        ≡ option_map (λ c. preamble_octets (true ∷ ms) ++ (r ++ (c ++ all))) o
     inner r None = refl
-    inner r (Some c) = ap (λ o. option_map (λ b. preamble_octets (true ∷ ms) ++ b) (option_map (λ b. r ++ b) (option_map (λ b. c ++ b) o))) (hj (p + length (preamble_octets (true ∷ ms)) + length r + length c))
+    inner r (Some c) = ap (λ o. option_map (λ b. preamble_octets (true ∷ ms) ++ b) (option_map (λ b. r ++ b) (option_map (λ b. c ++ b) o)))
+        (hj (p + length (preamble_octets (true ∷ ms)) + length r + length c))
 
-    go : (o : Option (List ℕ)) → option_map (λ b. preamble_octets (true ∷ ms) ++ b) (option_and_then (λ r. option_map (λ b. r ++ b) (option_and_then (λ c. option_map (λ b. c ++ b) (written j (p + length (preamble_octets (true ∷ ms)) + length r + length c))) (written (Oer.counted_bits bs) (p + length (preamble_octets (true ∷ ms)) + length r)))) o) ≡ option_and_then (λ r. option_map (λ c. preamble_octets (true ∷ ms) ++ (r ++ (c ++ all))) (written (Oer.counted_bits bs) 0)) o
+    go : (o : Option (List ℕ)) → option_map (λ b. preamble_octets (true ∷ ms) ++ b)
+        (option_and_then (λ r. option_map (λ b. r ++ b)
+        (option_and_then (λ c. option_map (λ b. c ++ b) (written j (p + length (preamble_octets (true ∷ ms)) + length r + length c)))
+        (written (Oer.counted_bits bs) (p + length (preamble_octets (true ∷ ms)) + length r)))) o)
+        ≡ option_and_then (λ r. option_map (λ c. preamble_octets (true ∷ ms) ++ (r ++ (c ++ all))) (written (Oer.counted_bits bs) 0)) o
     go None = refl
-    go (Some r) = ap (λ o. option_map (λ b. preamble_octets (true ∷ ms) ++ b) (option_map (λ b. r ++ b) (option_and_then (λ c. option_map (λ b. c ++ b) (written j (p + length (preamble_octets (true ∷ ms)) + length r + length c))) o))) ((counted_bits_still bs).at (p + length (preamble_octets (true ∷ ms)) + length r)) ∙ inner r (written (Oer.counted_bits bs) 0)
+    go (Some r) = ap (λ o. option_map (λ b. preamble_octets (true ∷ ms) ++ b)
+        (option_map (λ b. r ++ b)
+        (option_and_then (λ c. option_map (λ b. c ++ b) (written j (p + length (preamble_octets (true ∷ ms)) + length r + length c))) o)))
+        ((counted_bits_still bs).at (p + length (preamble_octets (true ∷ ms)) + length r)) ∙ inner r (written (Oer.counted_bits bs) 0)
 
 still_exact : (l : List ℕ) → OctetsStill (exactly l)
 unfolding written
@@ -158,11 +182,13 @@ exact_text : (l : List ℕ) (p : ℕ) → written {F = Oer.Freedom} {D = Oer.Det
 unfolding written
 exact_text l p = refl
 
-by_forms : (ms : List Bool) (r : List ℕ) (us : List (Option (List ℕ))) → written (Oer.with_additions ms (exactly r) (as_forms us)) 0 ≡ written (both (Oer.preamble (true ∷ ms)) (both (exactly r) (both (Oer.counted_bits (map (λ a. is_some a) (as_forms us))) (joined (present_ones (as_forms us)))))) 0
+by_forms : (ms : List Bool) (r : List ℕ) (us : List (Option (List ℕ))) → written (Oer.with_additions ms (exactly r) (as_forms us)) 0
+    ≡ written (both (Oer.preamble (true ∷ ms)) (both (exactly r) (both (Oer.counted_bits (map (λ a. is_some a) (as_forms us))) (joined (present_ones (as_forms us)))))) 0
 unfolding Oer.with_additions Oer.additions
 by_forms ms r us = refl
 
-same_text_of : (ms : List Bool) (r : List ℕ) (us : List (Option (List ℕ))) → written (both (Oer.preamble (true ∷ ms)) (both (exactly r) (both (Oer.counted_bits (told us)) (exactly (texts_joined us))))) 0 ≡ written (Oer.with_additions ms (exactly r) (as_forms us)) 0
+same_text_of : (ms : List Bool) (r : List ℕ) (us : List (Option (List ℕ))) →
+    written (both (Oer.preamble (true ∷ ms)) (both (exactly r) (both (Oer.counted_bits (told us)) (exactly (texts_joined us))))) 0 ≡ written (Oer.with_additions ms (exactly r) (as_forms us)) 0
 same_text_of ms r us =
     sum ms (exactly r) (told us) (exactly (texts_joined us)) (texts_joined us) (still_exact r) (exact_text (texts_joined us)) 0
     ∙ sym (sum ms (exactly r) (told us) (joined (present_ones (as_forms us))) (texts_joined us) (still_exact r) (joined_exactly us) 0)
@@ -170,7 +196,8 @@ same_text_of ms r us =
 
 same_closing : (ms : List Bool) (r : List ℕ) (us : List (Option (List ℕ))) → with_added ms r (told us) (texts_joined us) ≡ closing ms r us
 same_closing ms r us =
-    ap (λ t. cond t (written (both (Oer.preamble (true ∷ ms)) (both (exactly r) (both (Oer.counted_bits (told us)) (exactly (texts_joined us))))) 0) (written (both (Oer.preamble (false ∷ ms)) (exactly r)) 0)) (any_told us)
+    ap (λ t. cond t (written (both (Oer.preamble (true ∷ ms)) (both (exactly r) (both (Oer.counted_bits (told us)) (exactly (texts_joined us))))) 0)
+    (written (both (Oer.preamble (false ∷ ms)) (exactly r)) 0)) (any_told us)
     ∙ ap (λ o. cond (is_any_present (as_forms us)) o (written (both (Oer.preamble (false ∷ ms)) (exactly r)) 0)) (same_text_of ms r us)
     ∙ sym (own ms (exactly r) (as_forms us) 0)
 
@@ -178,33 +205,47 @@ same_closing ms r us =
 
 -- the rest of the additions, after those that were given
 abbrev Rest : Components → Type 0
-Rest cs = (qs : Parts) (ms : List Bool) (r : List ℕ) (slots : List (Option (List ℕ))) (front : List ℕ) (k : List Scope) (rest : List Record) → runs (added_records cs qs ++ rest) (texts_joined slots, added (component_count cs) ms r (told slots) front ∷ k) ≡ option_and_then (λ xs. option_and_then (λ us. option_and_then (λ w. runs rest (front ++ w, k)) (closing ms r (slots ++ us))) (texts_of xs)) (Oer.addition_forms cs qs)
+Rest cs = (qs : Parts) (ms : List Bool) (r : List ℕ) (slots : List (Option (List ℕ))) (front : List ℕ) (k : List Scope) (rest : List Record) →
+    runs (added_records cs qs ++ rest) (texts_joined slots, added (component_count cs) ms r (told slots) front ∷ k)
+    ≡ option_and_then (λ xs. option_and_then (λ us. option_and_then (λ w. runs rest (front ++ w, k)) (closing ms r (slots ++ us))) (texts_of xs)) (Oer.addition_forms cs qs)
 
 -- one more slot
 abbrev after_slot : List Bool → List ℕ → List (Option (List ℕ)) → List ℕ → List Scope → List Record → Option (List ℕ) → Option (List (Option Oer.OctetForm)) → Option State
 after_slot ms r slots front k rest u o = option_and_then (λ xs. option_and_then (λ us. option_and_then (λ w. runs rest (front ++ w, k)) (closing ms r ((slots ++ u ∷ []) ++ us))) (texts_of xs)) o
 
-absent_slot : (ms : List Bool) (r : List ℕ) (slots : List (Option (List ℕ))) (front : List ℕ) (k : List Scope) (rest : List Record) (o : Option (List (Option Oer.OctetForm))) → after_slot ms r slots front k rest None o ≡ option_and_then (λ xs. option_and_then (λ us. option_and_then (λ w. runs rest (front ++ w, k)) (closing ms r (slots ++ us))) (texts_of xs)) (option_map (λ xs. None ∷ xs) o)
+absent_slot : (ms : List Bool) (r : List ℕ) (slots : List (Option (List ℕ))) (front : List ℕ) (k : List Scope) (rest : List Record)
+    (o : Option (List (Option Oer.OctetForm))) → after_slot ms r slots front k rest None o ≡ option_and_then
+    (λ xs. option_and_then (λ us. option_and_then (λ w. runs rest (front ++ w, k)) (closing ms r (slots ++ us))) (texts_of xs)) (option_map (λ xs. None ∷ xs) o)
 absent_slot ms r slots front k rest None = refl
 absent_slot ms r slots front k rest (Some xs) = go (texts_of xs)
   where
-    go : (t : Option (List (Option (List ℕ)))) → option_and_then (λ us. option_and_then (λ w. runs rest (front ++ w, k)) (closing ms r ((slots ++ None ∷ []) ++ us))) t ≡ option_and_then (λ us. option_and_then (λ w. runs rest (front ++ w, k)) (closing ms r (slots ++ us))) (option_map (λ us. None ∷ us) t)
+    go : (t : Option (List (Option (List ℕ)))) → option_and_then
+        (λ us. option_and_then (λ w. runs rest (front ++ w, k)) (closing ms r ((slots ++ None ∷ []) ++ us))) t
+        ≡ option_and_then (λ us. option_and_then (λ w. runs rest (front ++ w, k)) (closing ms r (slots ++ us))) (option_map (λ us. None ∷ us) t)
     go None = refl
     go (Some us) = ap (λ l. option_and_then (λ w. runs rest (front ++ w, k)) (closing ms r l)) (append_assoc slots (None ∷ []) us)
 
-present_slot : (ms : List Bool) (r : List ℕ) (slots : List (Option (List ℕ))) (front : List ℕ) (k : List Scope) (rest : List Record) (x : Oer.OctetForm) (o : Option (List (Option Oer.OctetForm))) → option_and_then (λ w. after_slot ms r slots front k rest (Some w) o) (written x 0) ≡ option_and_then (λ xs. option_and_then (λ us. option_and_then (λ w. runs rest (front ++ w, k)) (closing ms r (slots ++ us))) (texts_of xs)) (option_map (λ xs. Some x ∷ xs) o)
+present_slot : (ms : List Bool) (r : List ℕ) (slots : List (Option (List ℕ))) (front : List ℕ) (k : List Scope) (rest : List Record)
+    (x : Oer.OctetForm) (o : Option (List (Option Oer.OctetForm))) →
+    option_and_then (λ w. after_slot ms r slots front k rest (Some w) o) (written x 0) ≡ option_and_then
+    (λ xs. option_and_then (λ us. option_and_then (λ w. runs rest (front ++ w, k)) (closing ms r (slots ++ us))) (texts_of xs)) (option_map (λ xs. Some x ∷ xs) o)
 present_slot ms r slots front k rest x None = none_behind (written x 0)
 present_slot ms r slots front k rest x (Some xs) = outer (written x 0)
   where
-    go : (w : List ℕ) (t : Option (List (Option (List ℕ)))) → option_and_then (λ us. option_and_then (λ w. runs rest (front ++ w, k)) (closing ms r ((slots ++ Some w ∷ []) ++ us))) t ≡ option_and_then (λ us. option_and_then (λ w. runs rest (front ++ w, k)) (closing ms r (slots ++ us))) (option_map (λ us. Some w ∷ us) t)
+    go : (w : List ℕ) (t : Option (List (Option (List ℕ)))) → option_and_then
+        (λ us. option_and_then (λ w. runs rest (front ++ w, k)) (closing ms r ((slots ++ Some w ∷ []) ++ us))) t
+        ≡ option_and_then (λ us. option_and_then (λ w. runs rest (front ++ w, k)) (closing ms r (slots ++ us))) (option_map (λ us. Some w ∷ us) t)
     go w None = refl
     go w (Some us) = ap (λ l. option_and_then (λ w. runs rest (front ++ w, k)) (closing ms r l)) (append_assoc slots (Some w ∷ []) us)
 
-    outer : (c : Option (List ℕ)) → option_and_then (λ w. after_slot ms r slots front k rest (Some w) (Some xs)) c ≡ option_and_then (λ us. option_and_then (λ w. runs rest (front ++ w, k)) (closing ms r (slots ++ us))) (option_and_then (λ w. option_map (λ us. Some w ∷ us) (texts_of xs)) c)
+    outer : (c : Option (List ℕ)) → option_and_then (λ w. after_slot ms r slots front k rest (Some w) (Some xs)) c
+        ≡ option_and_then (λ us. option_and_then (λ w. runs rest (front ++ w, k)) (closing ms r (slots ++ us))) (option_and_then (λ w. option_map (λ us. Some w ∷ us) (texts_of xs)) c)
     outer None = refl
     outer (Some w) = go w (texts_of xs)
 
-one_added : (s : Schema) (v : Value) → BridgesAt s v → (d g : Bool) (n : ℕ) (ms : List Bool) (r : List ℕ) (bs : List Bool) (os front : List ℕ) (k : List Scope) (rest : List Record) → runs ((presents s v ++ (addition_ends ∷ noted_by d g)) ++ rest) ([], open_type os ∷ added n ms r bs front ∷ k) ≡ option_and_then (λ w. runs rest (os ++ w, added n ms r bs front ∷ k)) (written (spelled_by d g (Oer.open_type (Oer.form s v))) 0)
+one_added : (s : Schema) (v : Value) → BridgesAt s v → (d g : Bool) (n : ℕ) (ms : List Bool) (r : List ℕ) (bs : List Bool) (os front : List ℕ)
+    (k : List Scope) (rest : List Record) → runs ((presents s v ++ (addition_ends ∷ noted_by d g)) ++ rest)
+    ([], open_type os ∷ added n ms r bs front ∷ k) ≡ option_and_then (λ w. runs rest (os ++ w, added n ms r bs front ∷ k)) (written (spelled_by d g (Oer.open_type (Oer.form s v))) 0)
 unfolding written
 one_added s v h d g n ms r bs os front k rest =
     ap (λ l. runs l ([], open_type os ∷ added n ms r bs front ∷ k)) (append_assoc (presents s v) (addition_ends ∷ noted_by d g) rest)
@@ -212,39 +253,51 @@ one_added s v h d g n ms r bs os front k rest =
     ∙ noted d g
   where
     -- the octets after their length determinant, and what comes then
-    kept : (more : List Record) (o : Option (List ℕ)) → option_and_then (λ w. runs (addition_ends ∷ more) (w, open_type os ∷ added n ms r bs front ∷ k)) o ≡ option_and_then (λ w. runs more (os ++ w, added n ms r bs front ∷ k)) (opened o)
+    kept : (more : List Record) (o : Option (List ℕ)) → option_and_then
+        (λ w. runs (addition_ends ∷ more) (w, open_type os ∷ added n ms r bs front ∷ k)) o ≡ option_and_then (λ w. runs more (os ++ w, added n ms r bs front ∷ k)) (opened o)
     kept more None = refl
     kept more (Some w) = one_text (written (Oer.counted w) 0) os (added n ms r bs front ∷ k) more
 
-    noted : (d g : Bool) → option_and_then (λ w. runs (addition_ends ∷ (noted_by d g ++ rest)) (w, open_type os ∷ added n ms r bs front ∷ k)) (written (Oer.form s v) 0) ≡ option_and_then (λ w. runs rest (os ++ w, added n ms r bs front ∷ k)) (written (spelled_by d g (Oer.open_type (Oer.form s v))) 0)
+    noted : (d g : Bool) → option_and_then (λ w. runs (addition_ends ∷ (noted_by d g ++ rest)) (w, open_type os ∷ added n ms r bs front ∷ k))
+        (written (Oer.form s v) 0) ≡ option_and_then (λ w. runs rest (os ++ w, added n ms r bs front ∷ k)) (written (spelled_by d g (Oer.open_type (Oer.form s v))) 0)
     noted true g = kept (is_default ∷ rest) (written (Oer.form s v) 0) ∙ none_behind (opened (written (Oer.form s v) 0))
     noted false true = kept (is_empty ∷ rest) (written (Oer.form s v) 0) ∙ none_behind (opened (written (Oer.form s v) 0))
     noted false false = kept rest (written (Oer.form s v) 0) ∙ ap (λ o. option_and_then (λ w. runs rest (os ++ w, added n ms r bs front ∷ k)) o) (sym (open_text (Oer.form s v)))
 
 -- what is held after one more addition
-one_more : (n : ℕ) (ms : List Bool) (r : List ℕ) (slots : List (Option (List ℕ))) (w front : List ℕ) (k : List Scope) → (let t : State = (texts_joined slots ++ w, added n ms r (told slots ++ true ∷ []) front ∷ k) in t) ≡ (texts_joined (slots ++ Some w ∷ []), added n ms r (told (slots ++ Some w ∷ [])) front ∷ k)
+one_more : (n : ℕ) (ms : List Bool) (r : List ℕ) (slots : List (Option (List ℕ))) (w front : List ℕ) (k : List Scope) →
+    (let t : State = (texts_joined slots ++ w, added n ms r (told slots ++ true ∷ []) front ∷ k) in t) ≡ (texts_joined (slots ++ Some w ∷ []), added n ms r (told (slots ++ Some w ∷ [])) front ∷ k)
 one_more n ms r slots w front k =
     ap (λ l. let t : State = (l, added n ms r (told slots ++ true ∷ []) front ∷ k) in t) (sym (joined_more slots w))
     ∙ ap (λ l. let t : State = (texts_joined (slots ++ Some w ∷ []), added n ms r l front ∷ k) in t) (sym (told_more slots (Some w)))
 
-one_less : (n : ℕ) (ms : List Bool) (r : List ℕ) (slots : List (Option (List ℕ))) (front : List ℕ) (k : List Scope) → (let t : State = (texts_joined slots, added n ms r (told slots ++ false ∷ []) front ∷ k) in t) ≡ (texts_joined (slots ++ None ∷ []), added n ms r (told (slots ++ None ∷ [])) front ∷ k)
+one_less : (n : ℕ) (ms : List Bool) (r : List ℕ) (slots : List (Option (List ℕ))) (front : List ℕ) (k : List Scope) →
+    (let t : State = (texts_joined slots, added n ms r (told slots ++ false ∷ []) front ∷ k) in t) ≡ (texts_joined (slots ++ None ∷ []), added n ms r (told (slots ++ None ∷ [])) front ∷ k)
 one_less n ms r slots front k =
     ap (λ l. let t : State = (l, added n ms r (told slots ++ false ∷ []) front ∷ k) in t) (sym (joined_same slots))
     ∙ ap (λ l. let t : State = (texts_joined (slots ++ None ∷ []), added n ms r l front ∷ k) in t) (sym (told_more slots None))
 
-one_left_out : (q : Bool) (cs : Components) → Rest cs → (qs : Parts) (ms : List Bool) (r : List ℕ) (slots : List (Option (List ℕ))) (front : List ℕ) (k : List Scope) (rest : List Record) → runs ((cond q (mismatch ∷ []) (addition false ∷ []) ++ added_records cs qs) ++ rest) (texts_joined slots, added (suc (component_count cs)) ms r (told slots) front ∷ k) ≡ option_and_then (λ xs. option_and_then (λ us. option_and_then (λ w. runs rest (front ++ w, k)) (closing ms r (slots ++ us))) (texts_of xs)) (cond q None (option_map (λ xs. None ∷ xs) (Oer.addition_forms cs qs)))
+one_left_out : (q : Bool) (cs : Components) → Rest cs → (qs : Parts) (ms : List Bool) (r : List ℕ) (slots : List (Option (List ℕ))) (front : List ℕ)
+    (k : List Scope) (rest : List Record) → runs ((cond q (mismatch ∷ []) (addition false ∷ []) ++ added_records cs qs) ++ rest)
+    (texts_joined slots, added (suc (component_count cs)) ms r (told slots) front ∷ k) ≡ option_and_then
+    (λ xs. option_and_then (λ us. option_and_then (λ w. runs rest (front ++ w, k)) (closing ms r (slots ++ us))) (texts_of xs)) (cond q None (option_map (λ xs. None ∷ xs) (Oer.addition_forms cs qs)))
 one_left_out true cs others qs ms r slots front k rest = refl
-one_left_out false cs others qs ms r slots front k rest = ap (runs (added_records cs qs ++ rest)) (one_less (component_count cs) ms r slots front k) ∙ others qs ms r (slots ++ None ∷ []) front k rest ∙ absent_slot ms r slots front k rest (Oer.addition_forms cs qs)
+one_left_out false cs others qs ms r slots front k rest = ap (runs (added_records cs qs ++ rest)) (one_less (component_count cs) ms r slots front k) ∙
+    others qs ms r (slots ++ None ∷ []) front k rest ∙ absent_slot ms r slots front k rest (Oer.addition_forms cs qs)
 
 -- the additions, and the end
 pub rest_of : (cs : Components) → EachBridges cs → Rest cs
 unfolding added_records Oer.addition_forms Oer.spelled
-rest_of no_component h end ms r slots front k rest = ap (λ o. option_and_then (λ m. runs rest m) (adds_text o (front, k))) (same_closing ms r slots) ∙ one_text (closing ms r slots) front k rest ∙ ap (λ l. option_and_then (λ w. runs rest (front ++ w, k)) (closing ms r l)) (sym (append-nil slots))
+rest_of no_component h end ms r slots front k rest = ap (λ o. option_and_then (λ m. runs rest m) (adds_text o (front, k))) (same_closing ms r slots) ∙
+    one_text (closing ms r slots) front k rest ∙ ap (λ l. option_and_then (λ w. runs rest (front ++ w, k)) (closing ms r l)) (sym (append-nil slots))
 rest_of no_component h qs ms r slots front k rest = refl
 rest_of (component t o s cs) h (present v qs) ms r slots front k rest =
-    ap (λ l. runs l ([], open_type (texts_joined slots) ∷ added (component_count cs) ms r (told slots ++ true ∷ []) front ∷ k)) (append_assoc (presents s v ++ (addition_ends ∷ noted_by (is_at_default o s v) (is_group_left_out s v))) (added_records cs qs) rest)
+    ap (λ l. runs l ([], open_type (texts_joined slots) ∷ added (component_count cs) ms r (told slots ++ true ∷ []) front ∷ k))
+    (append_assoc (presents s v ++ (addition_ends ∷ noted_by (is_at_default o s v) (is_group_left_out s v))) (added_records cs qs) rest)
     ∙ one_added s v (h.0 v) (is_at_default o s v) (is_group_left_out s v) (component_count cs) ms r (told slots ++ true ∷ []) (texts_joined slots) front k (added_records cs qs ++ rest)
-    ∙ chain_same (written (Oer.spelled o s v (Oer.open_type (Oer.form s v))) 0) _ (λ w. after_slot ms r slots front k rest (Some w) (Oer.addition_forms cs qs)) (λ w. ap (runs (added_records cs qs ++ rest)) (one_more (component_count cs) ms r slots w front k) ∙ rest_of cs h.1 qs ms r (slots ++ Some w ∷ []) front k rest)
+    ∙ chain_same (written (Oer.spelled o s v (Oer.open_type (Oer.form s v))) 0) _
+    (λ w. after_slot ms r slots front k rest (Some w) (Oer.addition_forms cs qs))
+    (λ w. ap (runs (added_records cs qs ++ rest)) (one_more (component_count cs) ms r slots w front k) ∙ rest_of cs h.1 qs ms r (slots ++ Some w ∷ []) front k rest)
     ∙ present_slot ms r slots front k rest (Oer.spelled o s v (Oer.open_type (Oer.form s v))) (Oer.addition_forms cs qs)
 rest_of (component t o s cs) h (absent qs) ms r slots front k rest = one_left_out (is_required o) cs (rest_of cs h.1) qs ms r slots front k rest
 rest_of (component t o s cs) h end ms r slots front k rest = refl
@@ -255,7 +308,8 @@ module _ (ms : List Bool) (x : Oer.OctetForm) (xs : List (Option Oer.OctetForm))
   a = alike xs us h e
 
   both_ways : (r : List ℕ) → closing ms r us ≡ cond (is_any_present xs) (written (Oer.with_additions ms (exactly r) (as_forms us)) 0) (written (both (Oer.preamble (false ∷ ms)) (exactly r)) 0)
-  both_ways r = own ms (exactly r) (as_forms us) 0 ∙ ap (λ t. cond t (written (Oer.with_additions ms (exactly r) (as_forms us)) 0) (written (both (Oer.preamble (false ∷ ms)) (exactly r)) 0)) (sym a.any)
+  both_ways r = own ms (exactly r) (as_forms us) 0 ∙
+      ap (λ t. cond t (written (Oer.with_additions ms (exactly r) (as_forms us)) 0) (written (both (Oer.preamble (false ∷ ms)) (exactly r)) 0)) (sym a.any)
 
   without : (o : Option (List ℕ)) → option_map (λ b. preamble_octets (false ∷ ms) ++ b) o ≡ option_and_then (λ r. written (both (Oer.preamble (false ∷ ms)) (exactly r)) 0) o
   unfolding written
@@ -266,17 +320,22 @@ module _ (ms : List Bool) (x : Oer.OctetForm) (xs : List (Option Oer.OctetForm))
   unfolding written
   first = ap (option_map (λ b. preamble_octets (false ∷ ms) ++ b)) (hx.at (p + length (preamble_octets (false ∷ ms))))
 
-  with_some : (r : List ℕ) → written (Oer.with_additions ms (exactly r) (as_forms us)) 0 ≡ option_map (λ c. preamble_octets (true ∷ ms) ++ (r ++ (c ++ texts_joined us))) (written (Oer.counted_bits (map (λ a. is_some a) xs)) 0)
+  with_some : (r : List ℕ) → written (Oer.with_additions ms (exactly r) (as_forms us)) 0 ≡ option_map
+      (λ c. preamble_octets (true ∷ ms) ++ (r ++ (c ++ texts_joined us))) (written (Oer.counted_bits (map (λ a. is_some a) xs)) 0)
   unfolding written Oer.with_additions Oer.additions
-  with_some r = sum ms (exactly r) (map (λ a. is_some a) (as_forms us)) (joined (present_ones (as_forms us))) (texts_joined us) (still_exact r) (joined_exactly us) 0 ∙ ap (λ b. option_map (λ c. preamble_octets (true ∷ ms) ++ (r ++ (c ++ texts_joined us))) (written (Oer.counted_bits b) 0)) (sym a.bits)
+  with_some r = sum ms (exactly r) (map (λ a. is_some a) (as_forms us)) (joined (present_ones (as_forms us))) (texts_joined us) (still_exact r)
+      (joined_exactly us) 0 ∙ ap (λ b. option_map (λ c. preamble_octets (true ∷ ms) ++ (r ++ (c ++ texts_joined us))) (written (Oer.counted_bits b) 0)) (sym a.bits)
 
-  with_all : written (Oer.with_additions ms x xs) p ≡ option_and_then (λ r. option_map (λ c. preamble_octets (true ∷ ms) ++ (r ++ (c ++ texts_joined us))) (written (Oer.counted_bits (map (λ a. is_some a) xs)) 0)) (written x 0)
+  with_all : written (Oer.with_additions ms x xs) p ≡ option_and_then
+      (λ r. option_map (λ c. preamble_octets (true ∷ ms) ++ (r ++ (c ++ texts_joined us))) (written (Oer.counted_bits (map (λ a. is_some a) xs)) 0)) (written x 0)
   unfolding Oer.with_additions Oer.additions
   with_all = sum ms x (map (λ a. is_some a) xs) (joined (present_ones xs)) (texts_joined us) hx a.text p
 
   go : (t : Bool) → is_any_present xs ≡ t → cond t (written (Oer.with_additions ms x xs) p) (written (both (Oer.preamble (false ∷ ms)) x) p) ≡ option_and_then (λ r. closing ms r us) (written x 0)
-  go true d = with_all ∙ chain_same (written x 0) _ (λ r. closing ms r us) (λ r. sym (both_ways r ∙ ap (λ t. cond t (written (Oer.with_additions ms (exactly r) (as_forms us)) 0) (written (both (Oer.preamble (false ∷ ms)) (exactly r)) 0)) d ∙ with_some r))
-  go false d = first ∙ without (written x 0) ∙ chain_same (written x 0) _ (λ r. closing ms r us) (λ r. sym (both_ways r ∙ ap (λ t. cond t (written (Oer.with_additions ms (exactly r) (as_forms us)) 0) (written (both (Oer.preamble (false ∷ ms)) (exactly r)) 0)) d))
+  go true d = with_all ∙ chain_same (written x 0) _ (λ r. closing ms r us)
+      (λ r. sym (both_ways r ∙ ap (λ t. cond t (written (Oer.with_additions ms (exactly r) (as_forms us)) 0) (written (both (Oer.preamble (false ∷ ms)) (exactly r)) 0)) d ∙ with_some r))
+  go false d = first ∙ without (written x 0) ∙ chain_same (written x 0) _ (λ r. closing ms r us)
+      (λ r. sym (both_ways r ∙ ap (λ t. cond t (written (Oer.with_additions ms (exactly r) (as_forms us)) 0) (written (both (Oer.preamble (false ∷ ms)) (exactly r)) 0)) d))
 
   closes : written (Oer.sequence_form true ms x xs) p ≡ option_and_then (λ r. closing ms r us) (written x 0)
   closes = own ms x xs p ∙ go (is_any_present xs) refl
@@ -294,9 +353,15 @@ lost (None ∷ xs) h e = lost xs h (go (texts_of xs) e)
     go : (t : Option (List (Option (List ℕ)))) → option_map {U = List (Option (List ℕ))} (λ us. None ∷ us) t ≡ None → t ≡ None
     go None f = refl
     go (Some us) f = cc
-lost (Some x ∷ xs) h e = (refl, λ p. ap (λ o. option_and_then (λ a. option_map (λ b. a ++ b) (written (joined (present_ones xs)) (p + length a))) o) (h.0.at p) ∙ go (λ f. (lost xs h.1 f).1) p (written x 0) (texts_of xs) refl e)
+lost (Some x ∷ xs) h e = (
+  refl,
+  λ p. ap (λ o. option_and_then (λ a. option_map (λ b. a ++ b) (written (joined (present_ones xs)) (p + length a))) o)
+      (h.0.at p) ∙ go (λ f. (lost xs h.1 f).1) p (written x 0) (texts_of xs) refl e,
+)
   where
-    go : ((texts_of xs ≡ None) → (p : ℕ) → written (joined (present_ones xs)) p ≡ None) → (p : ℕ) (o : Option (List ℕ)) (t : Option (List (Option (List ℕ)))) → texts_of xs ≡ t → option_and_then (λ w. option_map (λ us. Some w ∷ us) t) o ≡ None → option_and_then (λ a. option_map (λ b. a ++ b) (written (joined (present_ones xs)) (p + length a))) o ≡ None
+    go : ((texts_of xs ≡ None) → (p : ℕ) → written (joined (present_ones xs)) p ≡ None) →
+        (p : ℕ) (o : Option (List ℕ)) (t : Option (List (Option (List ℕ)))) → texts_of xs ≡ t →
+        option_and_then (λ w. option_map (λ us. Some w ∷ us) t) o ≡ None → option_and_then (λ a. option_map (λ b. a ++ b) (written (joined (present_ones xs)) (p + length a))) o ≡ None
     go again p None t f g = refl
     go again p (Some w) None f g = ap (option_map (λ b. w ++ b)) (again f (p + length w))
     go again p (Some w) (Some us) f g = cc
@@ -314,9 +379,12 @@ none_closes ms x xs h e p =
     bitmaps q None = refl
     bitmaps q (Some c) = ap (option_map (λ b. c ++ b)) (l.1 (q + length c))
 
-    roots : (o : Option (List ℕ)) → option_and_then (λ r. option_map (λ b. r ++ b) (written (both (Oer.counted_bits (map (λ a. is_some a) xs)) (joined (present_ones xs))) (p + length (preamble_octets (true ∷ ms)) + length r))) o ≡ None
+    roots : (o : Option (List ℕ)) →
+        option_and_then (λ r. option_map (λ b. r ++ b) (written (both (Oer.counted_bits (map (λ a. is_some a) xs)) (joined (present_ones xs)))
+        (p + length (preamble_octets (true ∷ ms)) + length r))) o ≡ None
     roots None = refl
-    roots (Some r) = ap (option_map (λ b. r ++ b)) (bitmaps (p + length (preamble_octets (true ∷ ms)) + length r) (written (Oer.counted_bits (map (λ a. is_some a) xs)) (p + length (preamble_octets (true ∷ ms)) + length r)))
+    roots (Some r) = ap (option_map (λ b. r ++ b)) (bitmaps (p + length (preamble_octets (true ∷ ms)) + length r)
+        (written (Oer.counted_bits (map (λ a. is_some a) xs)) (p + length (preamble_octets (true ∷ ms)) + length r)))
 
 -- ---- positions: what has the bridge has the same text everywhere
 
@@ -366,7 +434,8 @@ additions_still : (adds : Components) (qs : Parts) → AllStill (Oer.addition_fo
 unfolding Oer.addition_forms Oer.spelled
 additions_still no_component end = tt
 additions_still no_component qs = tt
-additions_still (component t o s cs) (present v qs) = more_still (Some (Oer.spelled o s v (Oer.open_type (Oer.form s v)))) (spelled_still (is_at_default o s v) (is_group_left_out s v) (Oer.open_type (Oer.form s v)) (open_still (Oer.form s v)), tt) (Oer.addition_forms cs qs) (additions_still cs qs)
+additions_still (component t o s cs) (present v qs) = more_still (Some (Oer.spelled o s v (Oer.open_type (Oer.form s v))))
+    (spelled_still (is_at_default o s v) (is_group_left_out s v) (Oer.open_type (Oer.form s v)) (open_still (Oer.form s v)), tt) (Oer.addition_forms cs qs) (additions_still cs qs)
 additions_still (component t o s cs) (absent qs) = left_out_still (is_required o) (Oer.addition_forms cs qs) (additions_still cs qs)
 additions_still (component t o s cs) end = tt
 
@@ -378,17 +447,22 @@ components_still : (cs : Components) → EachBridges cs → (ps : Parts) → Oct
 unfolding Oer.component_forms Oer.spelled
 components_still no_component h end = still_exact []
 components_still no_component h ps = refused_still
-components_still (component t o s cs) h (present v ps) = still_both (spelled_still (is_at_default o s v) (is_group_left_out s v) (Oer.form s v) (bridged_is_still s v (h.0 v))) (components_still cs h.1 ps)
+components_still (component t o s cs) h (present v ps) = still_both
+    (spelled_still (is_at_default o s v) (is_group_left_out s v) (Oer.form s v) (bridged_is_still s v (h.0 v))) (components_still cs h.1 ps)
 components_still (component t o s cs) h (absent ps) = left_still (is_required o) (Oer.component_forms cs ps) (components_still cs h.1 ps)
 components_still (component t o s cs) h end = refused_still
 
 -- ---- the root and the additions
 
-by_texts : (ms : List Bool) (x : Oer.OctetForm) → OctetsStill x → (p : ℕ) (w : List ℕ → Option State) (xs : List (Option Oer.OctetForm)) → EachStill xs → (t : Option (List (Option (List ℕ)))) → texts_of xs ≡ t → option_and_then (λ r. option_and_then (λ us. option_and_then w (closing ms r us)) t) (written x 0) ≡ option_and_then w (written (Oer.sequence_form true ms x xs) p)
+by_texts : (ms : List Bool) (x : Oer.OctetForm) → OctetsStill x → (p : ℕ) (w : List ℕ → Option State) (xs : List (Option Oer.OctetForm)) →
+    EachStill xs → (t : Option (List (Option (List ℕ)))) → texts_of xs ≡ t →
+    option_and_then (λ r. option_and_then (λ us. option_and_then w (closing ms r us)) t) (written x 0) ≡ option_and_then w (written (Oer.sequence_form true ms x xs) p)
 by_texts ms x hx p w xs h None e = none_behind (written x 0) ∙ ap (option_and_then w) (sym (none_closes ms x xs h e p))
 by_texts ms x hx p w xs h (Some us) e = two_steps w (λ r. closing ms r us) (written x 0) ∙ ap (option_and_then w) (sym (closes ms x xs us hx h e p))
 
-by_additions : (ms : List Bool) (x : Oer.OctetForm) → OctetsStill x → (p : ℕ) (w : List ℕ → Option State) (o : Option (List (Option Oer.OctetForm))) → AllStill o → option_and_then (λ r. option_and_then (λ xs. option_and_then (λ us. option_and_then w (closing ms r us)) (texts_of xs)) o) (written x 0) ≡ option_and_then w (written (given o (Oer.sequence_form true ms x)) p)
+by_additions : (ms : List Bool) (x : Oer.OctetForm) → OctetsStill x → (p : ℕ) (w : List ℕ → Option State) (o : Option (List (Option Oer.OctetForm))) →
+    AllStill o → option_and_then (λ r. option_and_then (λ xs. option_and_then (λ us. option_and_then w (closing ms r us)) (texts_of xs)) o)
+    (written x 0) ≡ option_and_then w (written (given o (Oer.sequence_form true ms x)) p)
 unfolding written
 by_additions ms x hx p w None h = none_behind (written x 0)
 by_additions ms x hx p w (Some xs) h = by_texts ms x hx p w xs h (texts_of xs) refl
@@ -397,16 +471,21 @@ by_additions ms x hx p w (Some xs) h = by_texts ms x hx p w xs h (texts_of xs) r
 
 -- the records of parts, and what they add
 abbrev PartsBridge : Components → Bool → Components → Type 0
-PartsBridge cs e adds = (ps qs : Parts) (p : ℕ) (os : List ℕ) (k : List Scope) (rest : List Record) → runs (root_records cs ps (behind_root e adds (added_records adds qs)) ++ rest) ([], components e (optional_count cs) [] os ∷ k) ≡ option_and_then (λ w. runs rest (os ++ w, k)) (written (given (Oer.addition_forms adds qs) (Oer.sequence_form e (presence_bits cs ps) (Oer.component_forms cs ps))) p)
+PartsBridge cs e adds = (ps qs : Parts) (p : ℕ) (os : List ℕ) (k : List Scope) (rest : List Record) →
+    runs (root_records cs ps (behind_root e adds (added_records adds qs)) ++ rest) ([], components e (optional_count cs) [] os ∷ k)
+    ≡ option_and_then (λ w. runs rest (os ++ w, k)) (written (given (Oer.addition_forms adds qs) (Oer.sequence_form e (presence_bits cs ps) (Oer.component_forms cs ps))) p)
 
 extensible_parts : (cs adds : Components) → EachBridges cs → EachBridges adds → PartsBridge cs true adds
 extensible_parts cs adds h ha ps qs p os k rest =
     root true cs h ps 0 [] os [] k (additions_begin (component_count adds) ∷ added_records adds qs) rest
-    ∙ chain_same (written (Oer.component_forms cs ps) 0) _ (λ r. option_and_then (λ xs. option_and_then (λ us. option_and_then (λ w. runs rest (os ++ w, k)) (closing (presence_bits cs ps) r us)) (texts_of xs)) (Oer.addition_forms adds qs)) (λ r. rest_of adds ha qs (presence_bits cs ps) r [] os k rest)
+    ∙ chain_same (written (Oer.component_forms cs ps) 0) _ (λ r.
+    option_and_then (λ xs. option_and_then (λ us. option_and_then (λ w. runs rest (os ++ w, k)) (closing (presence_bits cs ps) r us))
+    (texts_of xs)) (Oer.addition_forms adds qs)) (λ r. rest_of adds ha qs (presence_bits cs ps) r [] os k rest)
     ∙ by_additions (presence_bits cs ps) (Oer.component_forms cs ps) (components_still cs h ps) p (λ w. runs rest (os ++ w, k)) (Oer.addition_forms adds qs) (additions_still adds qs)
 
 -- no text has additions without an extension marker
-unmarked_additions : (ms : List Bool) (x : Oer.OctetForm) (t : List Tag) (o : Presence) (s : Schema) (adds : Components) (qs : Parts) (p : ℕ) → written (given (Oer.addition_forms (component t o s adds) qs) (Oer.sequence_form false ms x)) p ≡ None
+unmarked_additions : (ms : List Bool) (x : Oer.OctetForm) (t : List Tag) (o : Presence) (s : Schema) (adds : Components) (qs : Parts) (p : ℕ) →
+    written (given (Oer.addition_forms (component t o s adds) qs) (Oer.sequence_form false ms x)) p ≡ None
 unfolding written Oer.addition_forms Oer.sequence_form
 unmarked_additions ms x t o s adds (present v qs) p = go (Oer.addition_forms adds qs)
   where

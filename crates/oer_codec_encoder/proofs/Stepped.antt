@@ -3,16 +3,20 @@ use Rattle.std.proofs.Common.{◌≡◌, ℕ, ◌≤◌, Bool, true, false, List
 use Rattle.std.proofs.lemmas.List.{take_all}
 use Rattle.asn1_model.specs.Versions.{Begins}
 use Rattle.asn1_schema_errors.specs.declared.EncodeError.{EncodeError}
-use Rattle.asn1_schema_errors.specs.declared.EncodeError.TheVariants.{ValueConstraintNotSatisfied, SizeConstraintNotSatisfied, AlphabetConstraintNotSatisfied, TooLongValue, LengthExceedsPlatformSize, CallOutOfPlace, OutOfMemory, AlreadyFailed}
+use Rattle.asn1_schema_errors.specs.declared.EncodeError.TheVariants.{ValueConstraintNotSatisfied}
+use Rattle.asn1_schema_errors.specs.declared.EncodeError.TheVariants.{SizeConstraintNotSatisfied}
+use Rattle.asn1_schema_errors.specs.declared.EncodeError.TheVariants.{AlphabetConstraintNotSatisfied, TooLongValue}
+use Rattle.asn1_schema_errors.specs.declared.EncodeError.TheVariants.{LengthExceedsPlatformSize, CallOutOfPlace}
+use Rattle.asn1_schema_errors.specs.declared.EncodeError.TheVariants.{OutOfMemory, AlreadyFailed}
 use Rattle.asn1_schema_encode.specs.Writes.{Refused}
 use Rattle.asn1_schema_laws.specs.Records.{Record}
 use Rattle.oer_codec_encoder.specs.Steps.{State, run, adds_text}
 use Rattle.oer_codec_encoder.specs.declared.frame.Frame.{Frame}
-use Rattle.oer_codec_encoder.specs.Fronts.{ground, Keeps, Stands}
+use Rattle.oer_codec_encoder.specs.EarlierOctets.{ground, Keeps, Stands}
 use Rattle.oer_codec_encoder.specs.Holding.{shown, Holds, AreSound, Does, Cannot}
 use Rattle.oer_codec_encoder.specs.Stepping.{Written, Puts}
 use Rattle.oer_codec_writing.specs.Writing.{Adds, Refuses}
-use Rattle.oer_codec_encoder.proofs.Fronts.{front_behind, front_kept, keeps_behind, stands_behind}
+use Rattle.oer_codec_encoder.proofs.EarlierOctets.{front_behind, front_kept, keeps_behind, stands_behind}
 use Rattle.oer_codec_encoder.proofs.Refusals.{no_text}
 use Rattle.oer_codec_encoder.proofs.Scopes.{shown_is, appended}
 
@@ -81,10 +85,12 @@ refuses_none r x fs o e q h = no_text r x fs o e (λ n s. q s ∙ ap (λ y. adds
 pub adds_sound : {n : ℕ} (r : Record) (x : Option (List ℕ)) (fs : List Frame) (o p : List ℕ) → ((s : State) → run r s ≡ adds_text x s) → Stands fs o n → Adds x o p → Stands fs p n
 adds_sound r x fs o p e h a = stays_sound r fs fs o p h (does_add r x fs o p e a)
 
-pub adds_puts : {n : ℕ} (r : Record) (x : Option (List ℕ)) (fs : List Frame) (o p : List ℕ) (f : Bool) (w : Written) → ((s : State) → run r s ≡ adds_text x s) → holding fs o f n ≡ w → f ≡ false → Stands fs o n → Adds x o p → Puts w r (holding fs p false n)
+pub adds_puts : {n : ℕ} (r : Record) (x : Option (List ℕ)) (fs : List Frame) (o p : List ℕ) (f : Bool) (w : Written) →
+    ((s : State) → run r s ≡ adds_text x s) → holding fs o f n ≡ w → f ≡ false → Stands fs o n → Adds x o p → Puts w r (holding fs p false n)
 adds_puts r x fs o p f w q e g h a = puts r fs fs o p f w e g h (does_add r x fs o p q a)
 
-pub adds_front : {n : ℕ} (r : Record) (x : Option (List ℕ)) (fs : List Frame) (o p : List ℕ) (f : Bool) (w : Written) → ((s : State) → run r s ≡ adds_text x s) → holding fs o f n ≡ w → Stands fs o n → Adds x o p → take n (ground fs p) ≡ w.front
+pub adds_front : {n : ℕ} (r : Record) (x : Option (List ℕ)) (fs : List Frame) (o p : List ℕ) (f : Bool) (w : Written) →
+    ((s : State) → run r s ≡ adds_text x s) → holding fs o f n ≡ w → Stands fs o n → Adds x o p → take n (ground fs p) ≡ w.front
 adds_front r x fs o p f w q e h a = same_front r fs fs o p f w e h (does_add r x fs o p q a)
 
 pub text_kept : {n : ℕ} (fs : List Frame) (o p : List ℕ) (f : Bool) (w : Written) → holding fs o f n ≡ w → Stands fs o n → Begins o p → take n (ground fs p) ≡ w.front

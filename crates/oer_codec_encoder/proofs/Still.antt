@@ -29,7 +29,8 @@ module _ {F : Type 0} {D : F → Type 0} {A : Type 0} where
   unfolding written
   still_both {x} {y} h k = record {
     at = λ p. ap (λ o. option_and_then (λ a. option_map (λ b. a ++ b) (written y (p + length a))) o) (h.at p)
-        ∙ chain_same (written x 0) (λ a. option_map (λ b. a ++ b) (written y (p + length a))) (λ a. option_map (λ b. a ++ b) (written y (0 + length a))) (λ a. ap (λ o. option_map (λ b. a ++ b) o) (k.at (p + length a) ∙ sym (k.at (0 + length a))));
+        ∙ chain_same (written x 0) (λ a. option_map (λ b. a ++ b) (written y (p + length a))) (λ a.
+        option_map (λ b. a ++ b) (written y (0 + length a))) (λ a. ap (λ o. option_map (λ b. a ++ b) o) (k.at (p + length a) ∙ sym (k.at (0 + length a))));
   }
 
   pub still_varied : {c : F} {d : D c} {f : D c → Form F D A} → Still (f d) → Still (varied c d f)

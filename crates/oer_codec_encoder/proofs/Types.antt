@@ -1,11 +1,16 @@
 -- The bridge of every type.
 use Rattle.std.proofs.Common.{refl}
-use Rattle.asn1_model.specs.Schema.{Schema, cut, boolean, null, integer, enumerated, bit_string, octet_string, character_string, object_identifier, sequence_of, set_of, sequence, set, group, choice, Components, no_component, component, Alternatives, no_alternative, alternative}
+use Rattle.asn1_model.specs.Schema.{Schema, cut, boolean, null, integer, enumerated, bit_string, octet_string}
+use Rattle.asn1_model.specs.Schema.{character_string, object_identifier, sequence_of, set_of, sequence, set, group}
+use Rattle.asn1_model.specs.Schema.{choice, Components, no_component, component, Alternatives, no_alternative}
+use Rattle.asn1_model.specs.Schema.{alternative}
 use Rattle.asn1_model.specs.Form.{written}
 use Rattle.asn1_model.specs.Oer
 use Rattle.asn1_schema_laws.specs.Presents.{presents}
 use Rattle.oer_codec_encoder.specs.Ties.{Bridges}
-use Rattle.oer_codec_encoder.proofs.Bridge.{boolean_bridges, null_bridges, integer_bridges, enumerated_bridges, bit_string_bridges, octet_string_bridges, string_bridges, identifier_bridges, EachBridges, groups}
+use Rattle.oer_codec_encoder.proofs.Bridge.{boolean_bridges, null_bridges, integer_bridges, enumerated_bridges}
+use Rattle.oer_codec_encoder.proofs.Bridge.{bit_string_bridges, octet_string_bridges, string_bridges}
+use Rattle.oer_codec_encoder.proofs.Bridge.{identifier_bridges, EachBridges, groups}
 use Rattle.oer_codec_encoder.proofs.StepAdditions.{sequences, sets}
 use Rattle.oer_codec_encoder.proofs.Lists.{lists}
 use Rattle.oer_codec_encoder.proofs.StepBags.{bags}

@@ -51,11 +51,13 @@ refused_by_records schema v x h y = (
 
 -- ---- any writer
 
-chain_held : {S : Type 0} {step : S → Record → S → Type 0} {held : S → State} {Ready : S → Type 0} → IsWriter step held Ready → (rs : List Record) (a b : S) → Chain step rs a b → Chain Step rs (held a) (held b)
+chain_held : {S : Type 0} {step : S → Record → S → Type 0} {held : S → State} {Ready : S → Type 0} → IsWriter step held Ready →
+    (rs : List Record) (a b : S) → Chain step rs a b → Chain Step rs (held a) (held b)
 chain_held {held} h [] a b c = ap held c
 chain_held {held} h (r ∷ rs) a b c = (held c.0, (h.takes a r c.0 c.1).0, chain_held h rs c.0 b c.2)
 
-chain_taken : {S : Type 0} {step : S → Record → S → Type 0} {held : S → State} {Ready : S → Type 0} → IsWriter step held Ready → (rs : List Record) (a : S) (m : State) → Ready a → Chain Step rs (held a) m → (b : S) × Chain step rs a b × (held b ≡ m)
+chain_taken : {S : Type 0} {step : S → Record → S → Type 0} {held : S → State} {Ready : S → Type 0} → IsWriter step held Ready →
+    (rs : List Record) (a : S) (m : State) → Ready a → Chain Step rs (held a) m → (b : S) × Chain step rs a b × (held b ≡ m)
 chain_taken h [] a m k c = (a, refl, sym c)
 chain_taken h (r ∷ rs) a m k c =
     let t = h.takes_all a r c.0 k c.1 in
@@ -63,7 +65,8 @@ chain_taken h (r ∷ rs) a m k c =
     let u = chain_taken h rs t.0 m (h.takes a r t.0 t.1).1 (subst P (sym t.2) c.2) in
     (u.0, (t.0, t.1, u.1), u.2)
 
-canonically : (schema : ℕ → Schema) (v : Value) (o : Option (List ℕ)) → ((n : ℕ) → Fits (schema n) v → octet_encoding (schema n) (normal (schema n) v) ≡ o) → IsWrittenIn octet_rules schema v (option_and_then of_moderate_length o)
+canonically : (schema : ℕ → Schema) (v : Value) (o : Option (List ℕ)) →
+    ((n : ℕ) → Fits (schema n) v → octet_encoding (schema n) (normal (schema n) v) ≡ o) → IsWrittenIn octet_rules schema v (option_and_then of_moderate_length o)
 unfolding canonical encoding
 canonically schema v o h n f = (ap (option_and_then of_moderate_length) (h n f), ap (option_and_then of_moderate_length) (h n f))
 
@@ -75,4 +78,9 @@ writes_the_octets {held} h schema v old new i e w =
 
 pub refuses_only_none : {S : Type 0} {step : S → Record → S → Type 0} {held : S → State} {Ready : S → Type 0} → IsWriter step held Ready → RefusesOnlyNone step held Ready
 refuses_only_none h schema v old x i k e y c =
-    canonically schema v None ((refused_by_records schema v x i y).0 (record { none = λ z n new f t. let P : State → Type 0 = λ s. Chain Step (presents (schema n) v) s new in let u = chain_taken h (presents (schema n) v) old new k (subst P (sym e) t) in c.none z n u.0 f u.1 }))
+    canonically schema v None
+    ((refused_by_records schema v x i y).0
+    (record {
+      none = λ z n new f t. let P : State → Type 0 = λ s. Chain Step (presents (schema n) v) s new in let u =
+          chain_taken h (presents (schema n) v) old new k (subst P (sym e) t) in c.none z n u.0 f u.1;
+    }))

@@ -1,5 +1,5 @@
 -- The frames of an encoder, and how they change.
-use Rattle.std.specs.Prelude.{◌≡◌, ℕ, ◌+◌, ◌-◌, ◌<◌, Bool, ◌||◌, List, [], ◌∷◌, reverse, not, ltb, Option, Some, None}
+use Rattle.std.specs.Prelude.{◌≡◌, ℕ, ◌+◌, ◌-◌, ◌<◌, Bool, ◌||◌, List, ◌∷◌, not, ltb, Option, Some, None}
 use Rattle.asn1_schema_errors.specs.declared.EncodeError.{EncodeError}
 use Rattle.asn1_schema_errors.specs.declared.EncodeError.TheVariants.{AlreadyFailed, OutOfMemory}
 use Rattle.oer_codec_encoder.specs.declared.frame.Additions.{Additions}
@@ -17,15 +17,10 @@ frame_of (SmallMembers due) = Members due
 frame_of SmallAlternative = Alternative
 frame_of (SmallOpenType start) = OpenType start
 
--- What is open apart from a small frame: the innermost frame, then those around it from the inside out.
-abbrev pub others_of : Option Frame → List Frame → List Frame
-others_of None fs = []
-others_of (Some f) fs = f ∷ reverse fs
-
--- All that is open: a small frame is innermost of all.
-abbrev pub frames_of : Option SmallFrame → Option Frame → List Frame → List Frame
-frames_of None i fs = others_of i fs
-frames_of (Some e) i fs = frame_of e ∷ others_of i fs
+-- All that is open: a small frame is inside the others.
+abbrev pub frames_of : Option SmallFrame → List Frame → List Frame
+frames_of None k = k
+frames_of (Some e) k = frame_of e ∷ k
 
 -- A preamble after its next presence bit.
 abbrev pub told : Preamble → Preamble

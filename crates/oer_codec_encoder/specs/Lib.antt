@@ -1,7 +1,7 @@
 pub mod Stepping
 pub mod Laws
 pub mod Frames
-pub mod Fronts
+pub mod EarlierOctets
 pub mod Holding
 pub mod Joined
 pub mod Steps

@@ -1,7 +1,7 @@
 //! Extension additions of sequences and sets, each an open type (X.696 16 and 30).
 ghost use Rattle.std.specs.Prelude.{◌≡◌, OnErr, MatchResult};
 ghost use Rattle.asn1_schema_laws.specs.Records.{additions_begin, addition, addition_ends};
-ghost use Rattle.oer_codec_encoder.specs.Fronts.{Keeps};
+ghost use Rattle.oer_codec_encoder.specs.EarlierOctets.{Keeps};
 ghost use Rattle.oer_codec_encoder.specs.Holding.{AreSound, Does, Cannot};
 
 use crate::frame::{Additions, Frame};

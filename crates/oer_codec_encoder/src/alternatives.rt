@@ -2,7 +2,7 @@
 ghost use Rattle.std.specs.Prelude.{◌≡◌, map, option_map, OnErr, MatchResult};
 ghost use Rattle.asn1_schema_laws.specs.Records.{choice_begins};
 ghost use Rattle.asn1_schema_tags.specs.Tags.{tag_of};
-ghost use Rattle.oer_codec_encoder.specs.Fronts.{Keeps};
+ghost use Rattle.oer_codec_encoder.specs.EarlierOctets.{Keeps};
 ghost use Rattle.oer_codec_encoder.specs.Holding.{Does, Cannot};
 ghost use Rattle.oer_codec_encoder.specs.Steps.{tag_at, tags_among};
 

@@ -8,7 +8,7 @@ ghost use Rattle.asn1_schema_constraints.specs.Bounds.{members_of};
 ghost use Rattle.asn1_schema_constraints.specs.Terms.{sizes_of};
 ghost use Rattle.asn1_schema_order.specs.Entries.{octets_of};
 ghost use Rattle.oer_codec_encoder.specs.Frames.{NoMember};
-ghost use Rattle.oer_codec_encoder.specs.Fronts.{Keeps};
+ghost use Rattle.oer_codec_encoder.specs.EarlierOctets.{Keeps};
 ghost use Rattle.oer_codec_encoder.specs.Holding.{NextOfBag, Does, Cannot};
 ghost use Rattle.oer_codec_encoder.specs.Joined.{texts_joined};
 ghost use Rattle.oer_codec_writing.specs.Writing.{Adds};

@@ -4,7 +4,7 @@ ghost use Rattle.asn1_model.specs.Versions.{Begins};
 ghost use Rattle.asn1_schema_laws.specs.Records.{ends};
 ghost use Rattle.oer_codec_encoder.specs.declared.frame.Frame.TheVariants.{Added};
 ghost use Rattle.oer_codec_encoder.specs.Frames.{frame_of, NoEnd};
-ghost use Rattle.oer_codec_encoder.specs.Fronts.{Keeps};
+ghost use Rattle.oer_codec_encoder.specs.EarlierOctets.{Keeps};
 ghost use Rattle.oer_codec_encoder.specs.Holding.{AreSound, BagEnds, Does, Cannot};
 
 use crate::bags::{exchange, push_members};

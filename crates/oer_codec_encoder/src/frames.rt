@@ -1,21 +1,20 @@
 //! All open frames.
-ghost use Rattle.std.specs.Prelude.{◌≡◌, ◌+◌, ◌^◌, ◌<◌, ◌∷◌, [], List, reverse, OnOk, OnErr, IfSome, IfNone};
+ghost use Rattle.std.specs.Prelude.{◌≡◌, ◌+◌, ◌^◌, ◌<◌, ◌∷◌, [], List, OnOk, OnErr, IfSome, IfNone};
 ghost use Rattle.std.specs.Prelude.{MatchResult};
 ghost use Rattle.asn1_schema_laws.specs.Records.{ends, further};
 ghost use Rattle.oer_codec_encoder.specs.declared.frame.Frame.TheVariants.{Added, Bag, Components, OpenType};
-ghost use Rattle.oer_codec_encoder.specs.Frames.{frame_of, others_of, frames_of, told, with_next};
-ghost use Rattle.oer_codec_encoder.specs.Fronts.{ground, Keeps};
+ghost use Rattle.oer_codec_encoder.specs.Frames.{frame_of, frames_of, told, with_next};
+ghost use Rattle.oer_codec_encoder.specs.EarlierOctets.{ground, Keeps};
 ghost use Rattle.oer_codec_encoder.specs.Holding.{AreSound, Does, Cannot};
 
 use crate::bags::{exchange, next_of_bag};
 use crate::ends::{end_frame, end_small};
 use crate::frame::{Additions, Frame, Preamble};
 use crate::sequences::count_member;
-use asn1_schema_encode::let_go;
 use asn1_schema_errors::EncodeError;
+use asn1_schema_scopes::Stack;
 use std::alloc::{AllocError, Global};
 use std::marker::Model;
-use std::mem;
 
 /// An innermost frame that needs no more than one number: a frame around a single value, or a list whose element has
 /// opened nothing.
@@ -49,13 +48,12 @@ impl SmallFrame {
     }
 }
 
-/// All frames that are open, from the inside out: the small frame, if there is one; the innermost other frame; and
-/// those around it. The first two need no allocation.
+/// All frames that are open, from the inside out: the small frame, if there is one, then the others. The small frame
+/// and the innermost other one need no allocation.
 #[derive(Drop)]
 pub(crate) struct Frames {
     small: Option<SmallFrame>,
-    innermost: Option<Frame>,
-    outer: Vec<Frame>,
+    others: Stack<Frame>,
 }
 
 impl Model for Frames {
@@ -65,101 +63,45 @@ impl Model for Frames {
 
     ghost Value = { List Frame };
 
-    ghost view = { λ f. frames_of f.small f.innermost f.outer.items };
-}
-
-/// Opens a frame inside all others. The innermost frame is not a small one. If an allocation fails, nothing changes.
-#[inline(always)]
-fn open_frame(
-    innermost: &mut Option<Frame>,
-    outer: &mut Vec<Frame>,
-    frame: Frame,
-) -> Result<(), AllocError>
-    ensures ok { OnOk result
-        (others_of innermost.new outer.new.items ≡ frame ∷ others_of innermost.old outer.old.items) }
-    ensures kept { OnErr result
-        (others_of innermost.new outer.new.items ≡ others_of innermost.old outer.old.items) }
-{
-    if innermost.is_none() {
-        if !outer.is_empty() {
-            outer.clear();
-        }
-        // There is no previous frame to drop.
-        mem::forget(innermost.replace(frame));
-        return Ok(());
-    }
-    outer.reserve(1)?;
-    if let Some(around) = innermost.replace(frame) {
-        outer.push_reserved(around);
-    }
-    Ok(())
+    ghost view = { λ f. frames_of f.small f.others };
 }
 
 /// Opens a small frame as a frame inside all others. Rarely called: only where something begins in an open type, in
 /// an alternative or in the first element of a list.
 #[cold]
-fn settle_small(
-    innermost: &mut Option<Frame>,
-    outer: &mut Vec<Frame>,
-    small: SmallFrame,
-) -> Result<(), AllocError>
-    ensures ok { OnOk result (others_of innermost.new outer.new.items ≡ frame_of small
-        ∷ others_of innermost.old outer.old.items) }
-    ensures kept { OnErr result
-        (others_of innermost.new outer.new.items ≡ others_of innermost.old outer.old.items) }
+fn settle_small(others: &mut Stack<Frame>, small: SmallFrame) -> Result<(), AllocError>
+    ensures ok { OnOk result (others.new ≡ frame_of small ∷ others.old) }
+    ensures kept { OnErr result (others.new ≡ others.old) }
 {
-    open_frame(innermost, outer, small.frame())
+    others.open(small.frame())
 }
 
 /// Moves the small frame, if there is one, to the other frames. If an allocation fails, nothing changes.
 #[inline(always)]
-fn settle(
-    small: &mut Option<SmallFrame>,
-    innermost: &mut Option<Frame>,
-    outer: &mut Vec<Frame>,
-) -> Result<(), AllocError>
+fn settle(small: &mut Option<SmallFrame>, others: &mut Stack<Frame>) -> Result<(), AllocError>
     ensures none { OnOk result (small.new ≡ None) }
-    ensures same { OnOk result (others_of innermost.new outer.new.items
-        ≡ frames_of small.old innermost.old outer.old.items) }
-    ensures kept { OnErr result (frames_of small.new innermost.new outer.new.items
-        ≡ frames_of small.old innermost.old outer.old.items) }
+    ensures same { OnOk result (others.new ≡ frames_of small.old others.old) }
+    ensures kept { OnErr result (frames_of small.new others.new ≡ frames_of small.old others.old) }
 {
     if let Some(around) = *small {
-        settle_small(innermost, outer, around)?;
+        settle_small(others, around)?;
         *small = None;
     }
     Ok(())
 }
 
-/// Closes the innermost frame, which is not a small one.
-#[inline(always)]
-fn leave(innermost: &mut Option<Frame>, outer: &mut Vec<Frame>)
-    ensures { (f : _) → innermost.old ≡ Some f → others_of innermost.old outer.old.items
-        ≡ f ∷ others_of innermost.new outer.new.items }
-{
-    if outer.is_empty() {
-        *innermost = None;
-    } else {
-        *innermost = outer.pop();
-    }
-}
-
 /// Closes the innermost frame if it is an open type, and returns the position of its reserved octet. The innermost
 /// frame is not a small one.
 #[inline(always)]
-fn leave_open_type(innermost: &mut Option<Frame>, outer: &mut Vec<Frame>) -> Option<usize>
-    ensures some { IfSome result (λ start. others_of innermost.old outer.old.items
-        ≡ OpenType start ∷ others_of innermost.new outer.new.items) }
-    ensures none { IfNone result
-        ((start : _) (k : _) → others_of innermost.old outer.old.items ≡ OpenType start ∷ k → ⊥) }
-    ensures still { IfNone result
-        (others_of innermost.new outer.new.items ≡ others_of innermost.old outer.old.items) }
+fn close_other_open_type(others: &mut Stack<Frame>) -> Option<usize>
+    ensures some { IfSome result (λ start. others.old ≡ OpenType start ∷ others.new) }
+    ensures none { IfNone result ((start : _) (k : _) → others.old ≡ OpenType start ∷ k → ⊥) }
+    ensures still { IfNone result (others.new ≡ others.old) }
 {
-    let Some(Frame::OpenType { start }) = innermost else {
+    let Some(Frame::OpenType { start }) = others.innermost else {
         return None;
     };
-    let start = *start;
-    leave(innermost, outer);
+    let _closed = others.close();
     Some(start)
 }
 
@@ -168,22 +110,54 @@ fn leave_open_type(innermost: &mut Option<Frame>, outer: &mut Vec<Frame>) -> Opt
 fn end_other(
     octets: &mut Vec<u8>,
     alloc: Global,
-    innermost: &mut Option<Frame>,
-    outer: &mut Vec<Frame>,
+    others: &mut Stack<Frame>,
 ) -> Result<(), EncodeError>
-    requires { AreSound (others_of innermost.old outer.old.items) octets.old.items }
-    ensures step { MatchResult result (λ _. Does ends (others_of innermost.old outer.old.items) octets.old.items
-        (others_of innermost.new outer.new.items) octets.new.items)
-        (Cannot ends (others_of innermost.old outer.old.items) octets.old.items) }
-    ensures kept { OnErr result (Keeps (others_of innermost.old outer.old.items) octets.old.items
-        (others_of innermost.new outer.new.items) octets.new.items) }
+    requires { AreSound others.old octets.old.items }
+    ensures step { MatchResult result (λ _. Does ends others.old octets.old.items others.new octets.new.items)
+        (Cannot ends others.old octets.old.items) }
+    ensures kept { OnErr result (Keeps others.old octets.old.items others.new octets.new.items) }
 {
-    let Some(frame) = innermost else {
+    let Some(frame) = &mut others.innermost else {
         return Err(EncodeError::CallOutOfPlace);
     };
     end_frame(octets, alloc, frame)?;
-    leave(innermost, outer);
+    let _closed = others.close();
     Ok(())
+}
+
+/// Begins a further element of the innermost list or bag if `more`, else expects none to be due. The innermost frame
+/// is not a small one.
+#[inline(always)]
+fn encode_other_further(
+    octets: &mut Vec<u8>,
+    alloc: Global,
+    others: &mut Stack<Frame>,
+    more: bool,
+) -> Result<(), EncodeError>
+    ensures step { MatchResult result
+        (λ _. Does (further more) others.old octets.old.items others.new octets.new.items)
+        (Cannot (further more) others.old octets.old.items) }
+    ensures kept { OnErr result (Keeps others.old octets.old.items others.new octets.new.items) }
+{
+    match &mut others.innermost {
+        Some(Frame::Members { due }) => count_member(due, more)?,
+        Some(Frame::Bag(bag)) => return next_of_bag(octets, bag, alloc, more),
+        _ => return Err(EncodeError::CallOutOfPlace),
+    }
+    Ok(())
+}
+
+/// Exchanges the octets with those that the innermost frame, a bag, has set aside.
+#[inline(always)]
+fn set_other_aside(octets: &mut Vec<u8>, others: &mut Stack<Frame>)
+    requires { (b : _) × (k : _) × (others.old ≡ Bag b ∷ k) }
+    ensures { (b : _) (k : _) → others.old ≡ Bag b ∷ k → let a = b.value in (c : _) × (others.new ≡ Bag c ∷ k)
+        × (c.value ≡ record a { outer = octets.old }) × (octets.new ≡ a.outer) }
+{
+    let Some(Frame::Bag(bag)) = &mut others.innermost else {
+        return;
+    };
+    exchange(octets, bag);
 }
 
 /// Restores the octets that a frame set aside, which only a bag does.
@@ -196,24 +170,14 @@ fn bring_back(octets: &mut Vec<u8>, frame: &mut Frame)
     }
 }
 
-/// Restores the octets that the outermost bag among these frames set aside, and removes all frames.
-fn bring_all_back(octets: &mut Vec<u8>, frames: &mut Vec<Frame>)
-    ensures { octets.new.items ≡ ground (reverse frames.old.items) octets.old.items }
+/// Closes all frames, and restores the octets that the outermost bag among them set aside.
+fn bring_all_back(octets: &mut Vec<u8>, others: &mut Stack<Frame>)
+    ensures octets { octets.new.items ≡ ground others.old octets.old.items }
+    ensures none { others.new ≡ [] }
 {
-    while let Some(mut frame) = frames.pop() {
+    while let Some(mut frame) = others.close() {
         bring_back(octets, &mut frame);
     }
-}
-
-/// Restores the octets that the outermost bag set aside, among the innermost frame and those around it.
-fn bring_others_back(octets: &mut Vec<u8>, innermost: &mut Option<Frame>, outer: &mut Vec<Frame>)
-    ensures { octets.new.items ≡ ground (others_of innermost.old outer.old.items) octets.old.items }
-{
-    let Some(frame) = innermost else {
-        return;
-    };
-    bring_back(octets, frame);
-    bring_all_back(octets, outer);
 }
 
 impl Frames {
@@ -224,8 +188,7 @@ impl Frames {
     {
         Frames {
             small: None,
-            innermost: None,
-            outer: Vec::new(alloc),
+            others: Stack::new(alloc),
         }
     }
 
@@ -235,23 +198,14 @@ impl Frames {
         ensures { self.new ≡ [] }
     {
         self.small = None;
-        if self.innermost.is_some() {
-            self.innermost = None;
-        }
-        if !self.outer.is_empty() {
-            self.outer.clear();
-        }
+        self.others.clear();
     }
 
     /// Drops all frames.
     #[inline(always)]
     pub(crate) fn let_go(self) {
-        let Frames {
-            innermost,
-            outer,
-            ..
-        } = self;
-        let_go(innermost, outer);
+        let Frames { others, .. } = self;
+        others.let_go();
     }
 
     /// Closes all frames, and restores the octets that the outermost bag set aside, if a bag is open.
@@ -259,8 +213,8 @@ impl Frames {
         ensures octets { octets.new.items ≡ ground self.old octets.old.items }
         ensures none { self.new ≡ [] }
     {
-        bring_others_back(octets, &mut self.innermost, &mut self.outer);
-        self.clear();
+        bring_all_back(octets, &mut self.others);
+        self.small = None;
     }
 
     /// Exchanges the octets with those that the innermost frame, a bag, has set aside.
@@ -269,10 +223,10 @@ impl Frames {
         ensures { (b : _) (k : _) → self.old ≡ Bag b ∷ k → let a = b.value in (c : _) × (self.new ≡ Bag c ∷ k)
             × (c.value ≡ record a { outer = octets.old }) × (octets.new ≡ a.outer) }
     {
-        let (None, Some(Frame::Bag(bag))) = (&self.small, &mut self.innermost) else {
-            return;
-        };
-        exchange(octets, bag);
+        match self.small {
+            Some(_) => {}
+            None => set_other_aside(octets, &mut self.others),
+        }
     }
 
     /// Opens a frame inside all others. If an allocation fails, nothing changes.
@@ -281,8 +235,8 @@ impl Frames {
         ensures ok { OnOk result (self.new ≡ frame ∷ self.old) }
         ensures kept { OnErr result (self.new ≡ self.old) }
     {
-        settle(&mut self.small, &mut self.innermost, &mut self.outer)?;
-        open_frame(&mut self.innermost, &mut self.outer, frame)
+        settle(&mut self.small, &mut self.others)?;
+        self.others.open(frame)
     }
 
     /// Opens a small frame inside all others. If an allocation fails, nothing changes.
@@ -291,7 +245,7 @@ impl Frames {
         ensures ok { OnOk result (self.new ≡ frame_of small ∷ self.old) }
         ensures kept { OnErr result (self.new ≡ self.old) }
     {
-        settle(&mut self.small, &mut self.innermost, &mut self.outer)?;
+        settle(&mut self.small, &mut self.others)?;
         self.small = Some(small);
         Ok(())
     }
@@ -309,7 +263,7 @@ impl Frames {
                 Some(start)
             }
             Some(SmallFrame::Members { .. } | SmallFrame::Alternative) => None,
-            None => leave_open_type(&mut self.innermost, &mut self.outer),
+            None => close_other_open_type(&mut self.others),
         }
     }
 
@@ -333,7 +287,7 @@ impl Frames {
             self.small = None;
             return end_small(octets, alloc, small);
         }
-        end_other(octets, alloc, &mut self.innermost, &mut self.outer)
+        end_other(octets, alloc, &mut self.others)
     }
 
     /// The preamble of the innermost frame, if it is a sequence that has not passed its root.
@@ -342,7 +296,7 @@ impl Frames {
         ensures some { IfSome result (λ p. (k : _) × (self.now ≡ Components p ∷ k)) }
         ensures none { IfNone result ((p : _) (k : _) → self.now ≡ Components p ∷ k → ⊥) }
     {
-        match (&self.small, &self.innermost) {
+        match (&self.small, &self.others.innermost) {
             (None, Some(Frame::Components(preamble))) => Some(*preamble),
             _ => None,
         }
@@ -354,7 +308,7 @@ impl Frames {
         requires { (p : _) × (k : _) × (self.old ≡ Components p ∷ k) }
         ensures { (f : _) (k : _) → self.old ≡ f ∷ k → self.new ≡ frame ∷ k }
     {
-        self.innermost = Some(frame);
+        self.others.innermost = Some(frame);
     }
 
     /// Takes the next presence bit of the innermost sequence, and returns the preamble as it was before.
@@ -366,7 +320,7 @@ impl Frames {
         ensures none { IfNone result ((p : _) (k : _) → self.old ≡ Components p ∷ k → p.due ≡ 0) }
         ensures still { IfNone result (self.new ≡ self.old) }
     {
-        match (&self.small, &mut self.innermost) {
+        match (&self.small, &mut self.others.innermost) {
             (None, Some(Frame::Components(preamble))) => {
                 if preamble.due == 0 {
                     return None;
@@ -398,16 +352,16 @@ impl Frames {
             (Cannot (further more) self.old octets.old.items) }
         ensures kept { OnErr result (Keeps self.old octets.old.items self.new octets.new.items) }
     {
-        match (&mut self.small, &mut self.innermost) {
-            (Some(SmallFrame::Members { due }), _) => {
+        match &mut self.small {
+            Some(SmallFrame::Members { due }) => {
                 count_member(due, more)?;
-                return Ok(());
+                Ok(())
             }
-            (None, Some(Frame::Members { due })) => count_member(due, more)?,
-            (None, Some(Frame::Bag(bag))) => return next_of_bag(octets, bag, alloc, more),
-            _ => return Err(EncodeError::CallOutOfPlace),
+            Some(SmallFrame::Alternative | SmallFrame::OpenType { .. }) => {
+                Err(EncodeError::CallOutOfPlace)
+            }
+            None => encode_other_further(octets, alloc, &mut self.others, more),
         }
-        Ok(())
     }
 
     /// Counts the next addition of the innermost sequence, and returns the additions as they were before.
@@ -419,7 +373,7 @@ impl Frames {
         ensures none { IfNone result ((a : _) (k : _) → self.old ≡ Added a ∷ k → a.due ≡ 0) }
         ensures still { IfNone result (self.new ≡ self.old) }
     {
-        match (&self.small, &mut self.innermost) {
+        match (&self.small, &mut self.others.innermost) {
             (None, Some(Frame::Added(additions))) => {
                 if additions.due == 0 {
                     return None;
@@ -440,7 +394,7 @@ impl Frames {
         ensures some { IfSome result (λ a. (k : _) × (self.now ≡ Added a.now ∷ k)) }
         ensures none { IfNone result ((a : _) (k : _) → self.now ≡ Added a ∷ k → ⊥) }
     {
-        match (&self.small, &self.innermost) {
+        match (&self.small, &self.others.innermost) {
             (None, Some(Frame::Added(additions))) => Some(additions),
             _ => None,
         }

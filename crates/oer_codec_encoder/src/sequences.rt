@@ -7,7 +7,7 @@ ghost use Rattle.asn1_schema_laws.specs.Records.{sequence_begins, presence_bit, 
 ghost use Rattle.asn1_schema_constraints.specs.Bounds.{members_of};
 ghost use Rattle.asn1_schema_constraints.specs.Terms.{sizes_of};
 ghost use Rattle.oer_codec_encoder.specs.Frames.{NoMember};
-ghost use Rattle.oer_codec_encoder.specs.Fronts.{Keeps};
+ghost use Rattle.oer_codec_encoder.specs.EarlierOctets.{Keeps};
 ghost use Rattle.oer_codec_encoder.specs.Holding.{AreSound, Does, Cannot};
 
 use crate::frame::{Frame, Preamble};

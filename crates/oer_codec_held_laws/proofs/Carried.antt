@@ -1,5 +1,6 @@
 -- What a decoder finds it also finds with a few octets appended.
-use Rattle.std.proofs.Common.{◌≡◌, ◌⊎◌, inl, inr, ◌≤◌, ◌<◌, ℕ, zero, suc, ◌+◌, max, ltb, Bool, true, false, cond, IsTrue, List, [], ◌∷◌, ◌++◌, length, Option, Some, None, refl, ap, sym, ◌∙◌, subst, arith}
+use Rattle.std.proofs.Common.{◌≡◌, ◌⊎◌, inl, inr, ◌≤◌, ◌<◌, ℕ, zero, suc, ◌+◌, max, ltb, Bool, true, false, cond}
+use Rattle.std.proofs.Common.{IsTrue, List, [], ◌∷◌, ◌++◌, length, Option, Some, None, refl, ap, sym, ◌∙◌, subst, arith}
 use Rattle.std.proofs.lemmas.Bool.{ltb-true}
 use Rattle.asn1_model.specs.Value.{Value, Values, no_more, member, depth, depth_of_members}
 use Rattle.asn1_model.specs.Schema.{Schema, Size, Counts}
@@ -84,7 +85,16 @@ fewer m l a b failed e h w (inl i) = let j = i.1 in inl (w i.0, omega arith)
 fewer m l a b failed e h w (inr i) = inr i
 
 pub nothing_more : (a : Held) → a ≡ held_with [] a
-nothing_more a = sym (ap (λ (t : State). let h : Held = record { octets = t.0; scopes = t.1; levels = a.levels; most = a.most; failed = a.failed; short = a.short; rules = a.rules } in h) (more_none (state_of a)))
+nothing_more a = sym (ap (λ (t : State). let h : Held = record {
+  octets = t.0;
+  scopes = t.1;
+  levels = a.levels;
+  most = a.most;
+  failed =
+      a.failed;
+  short = a.short;
+  rules = a.rules;
+} in h) (more_none (state_of a)))
 
 pub few_at_once : (n : ℕ) (a failed : Held) → FewHeld n a failed a
 few_at_once n a failed = ([], nothing_more a, inr refl)
@@ -124,7 +134,8 @@ level_kept : (a b : Held) (v : Bool) → Finds a (further v) b → b.levels ≡ 
 level_kept a b v t = let e : Some a.levels ≡ Some b.levels = t.levels in cc e
 
 -- whether an element comes does not depend on the octets
-held_asked : (a failed : Held) → ((c : Held) → TooFewHeld a failed c → (v : Bool) (d : Held) → Finds c (further v) d → ⊥) → (c : Held) → TooFewMembersHeld a failed c → (v : Bool) (d : Held) → Finds c (further v) d → ⊥
+held_asked : (a failed : Held) → ((c : Held) → TooFewHeld a failed c → (v : Bool) (d : Held) → Finds c (further v) d → ⊥) → (c : Held) →
+    TooFewMembersHeld a failed c → (v : Bool) (d : Held) → Finds c (further v) d → ⊥
 held_asked a failed h c f v d t =
     let p : Finds (held_with f.0 a) (further v) d = subst (λ (s : Held). Finds s (further v) d) f.1 t in
     let z = member_back (freedoms a.rules) f.0 v a.octets a.scopes (state_of d) p.taken in
@@ -133,7 +144,8 @@ held_asked a failed h c f v d t =
     h a (few_at_once (due a.scopes) a failed) v y q
 
 -- how deep elements nest
-members_deep : (free : Oer.Freedom → Bool) (s : Schema) (most : ℕ) (vs : Values) (a c : State) (l m : ℕ) → Chain (Takes free) (member_records (λ w. presents s w) vs) a c → Chain (Level most) (member_records (λ w. presents s w) vs) l m → l ≤ most → depth_of_members vs ≤ l
+members_deep : (free : Oer.Freedom → Bool) (s : Schema) (most : ℕ) (vs : Values) (a c : State) (l m : ℕ) →
+    Chain (Takes free) (member_records (λ w. presents s w) vs) a c → Chain (Level most) (member_records (λ w. presents s w) vs) l m → l ≤ most → depth_of_members vs ≤ l
 unfolding depth_of_members
 members_deep free s most no_more a c l m q r i = omega arith
 members_deep free s most (member v vs) a c l m q r i =
@@ -147,7 +159,8 @@ members_deep free s most (member v vs) a c l m q r i =
     let u : depth v ≤ r.0 = d.0 in
     omega arith
 
-module _ (s : Schema) (lawful : IsLawful s) (a b failed : Held) (t : Finds a (further true) b) (i : a.levels ≤ a.most) (h : (c : Held) → TooFewHeld b failed c → (v : Value) (d : Held) → Fits s v → Chain Finds (presents s v) c d → ⊥) where
+module _ (s : Schema) (lawful : IsLawful s) (a b failed : Held) (t : Finds a (further true) b) (i : a.levels ≤ a.most)
+    (h : (c : Held) → TooFewHeld b failed c → (v : Value) (d : Held) → Fits s v → Chain Finds (presents s v) c d → ⊥) where
   b_within : b.levels ≤ b.most
   b_within = found_within a (further true) b t i
 
@@ -162,14 +175,18 @@ module _ (s : Schema) (lawful : IsLawful s) (a b failed : Held) (t : Finds a (fu
       let l = (nests s v b.most b.levels b.levels fits b_within).1 (deep, refl) in
       h e (f.0, refl, lacking f.0 f.2) v (held_at e d b.levels) fits (both_found (presents s v) e d b.levels t.ready_still x l)
 
-  held_stuck : (more : List ℕ) (d : Held) → (length more + due (around a.scopes) ≤ lacks failed) → Finds (held_with more a) (further true) d → (v : Value) (vs : Values) (e : Held) → Chain Finds (presents s v ++ member_records (λ w. presents s w) vs) d e → ⊥
+  held_stuck : (more : List ℕ) (d : Held) → (length more + due (around a.scopes) ≤ lacks failed) → Finds (held_with more a) (further true) d →
+      (v : Value) (vs : Values) (e : Held) → Chain Finds (presents s v ++ member_records (λ w. presents s w) vs) d e → ⊥
   held_stuck more d j p v vs e q =
       let r : b.rules ≡ a.rules = t.rules in
       let u : d.rules ≡ b.rules = p.rules ∙ sym r in
       let free = freedoms b.rules in
       let begun : Takes (freedoms b.rules) (state_of a) (further true) (state_of b) = subst (λ (x : EncodingRules). Takes (freedoms x) (state_of a) (further true) (state_of b)) (sym r) t.taken in
-      let begun' : Takes (freedoms b.rules) (with_more more (state_of a)) (further true) (state_of d) = subst (λ (x : EncodingRules). Takes (freedoms x) (with_more more (state_of a)) (further true) (state_of d)) (sym r) p.taken in
-      let all : Chain (Takes (freedoms b.rules)) (presents s v ++ member_records (λ w. presents s w) vs) (state_of d) (state_of e) = subst (λ (x : EncodingRules). Chain (Takes (freedoms x)) (presents s v ++ member_records (λ w. presents s w) vs) (state_of d) (state_of e)) u (octets_taken (presents s v ++ member_records (λ w. presents s w) vs) d e q) in
+      let begun' : Takes (freedoms b.rules) (with_more more (state_of a)) (further true) (state_of d) =
+      subst (λ (x : EncodingRules). Takes (freedoms x) (with_more more (state_of a)) (further true) (state_of d)) (sym r) p.taken in
+      let all : Chain (Takes (freedoms b.rules)) (presents s v ++ member_records (λ w. presents s w) vs) (state_of d) (state_of e) =
+      subst (λ (x : EncodingRules). Chain (Takes (freedoms x)) (presents s v ++ member_records (λ w. presents s w) vs) (state_of d) (state_of e))
+      u (octets_taken (presents s v ++ member_records (λ w. presents s w) vs) d e q) in
       let depths = levels_taken (presents s v ++ member_records (λ w. presents s w) vs) d e q in
       let y = chain_split (Takes (freedoms b.rules)) (presents s v) (member_records (λ w. presents s w) vs) (state_of d) (state_of e) all in
       let z = chain_split (Level d.most) (presents s v) (member_records (λ w. presents s w) vs) d.levels e.levels depths in
@@ -181,10 +198,12 @@ module _ (s : Schema) (lawful : IsLawful s) (a b failed : Held) (t : Finds a (fu
       let o : z.0 ≡ d.levels = n.1 in
       let dv : depth v ≤ d.levels = n.0 in
       let dvs = members_deep (freedoms b.rules) s d.most vs y.0 (state_of e) z.0 e.levels y.2 z.2 (omega arith) in
-      stuck_within (freedoms b.rules) (any_bitmap b.rules) (any_order b.rules) s b.levels lawful (lacks failed) (state_of a) (state_of b) begun none_there (with_more more (state_of a)) (state_of d) (more, refl, inl j) begun' v vs (state_of e) (omega arith) (omega arith) all
+      stuck_within (freedoms b.rules) (any_bitmap b.rules) (any_order b.rules) s b.levels lawful (lacks failed) (state_of a) (state_of b) begun
+      none_there (with_more more (state_of a)) (state_of d) (more, refl, inl j) begun' v vs (state_of e) (omega arith) (omega arith) all
 
 -- if the decoder lacks no more than was there
-module _ (s : Schema) (lawful : IsLawful s) (a b failed : Held) (t : Finds a (further true) b) (h : (c : Held) → TooFewHeld b failed c → (v : Value) (d : Held) → Fits s v → Chain Finds (presents s v) c d → ⊥) where
+module _ (s : Schema) (lawful : IsLawful s) (a b failed : Held) (t : Finds a (further true) b)
+    (h : (c : Held) → TooFewHeld b failed c → (v : Value) (d : Held) → Fits s v → Chain Finds (presents s v) c d → ⊥) where
   same_next : (d : Held) → Finds a (further true) d → d ≡ b
   same_next d p = (finds_one a (further true) (further true) d b refl p t).1
 
@@ -193,7 +212,8 @@ module _ (s : Schema) (lawful : IsLawful s) (a b failed : Held) (t : Finds a (fu
       let y = chain_split Finds (presents s v) (member_records (λ w. presents s w) vs) d e q in
       h b (few_at_once (due b.scopes) b failed) v y.0 i (subst (λ (x : Held). Chain Finds (presents s v) x y.0) (same_next d p) y.1)
 
-  stuck_by : (more : List ℕ) → Fewer (due (around a.scopes)) a failed more → (d : Held) → Finds (held_with more a) (further true) d → (v : Value) (vs : Values) (e : Held) → Fits s v → Chain Finds (presents s v ++ member_records (λ w. presents s w) vs) d e → ⊥
+  stuck_by : (more : List ℕ) → Fewer (due (around a.scopes)) a failed more → (d : Held) → Finds (held_with more a) (further true) d →
+      (v : Value) (vs : Values) (e : Held) → Fits s v → Chain Finds (presents s v ++ member_records (λ w. presents s w) vs) d e → ⊥
   stuck_by more (inl j) d p v vs e i q = held_stuck s lawful a b failed t j.0 h more d j.1 p v vs e q
   stuck_by more (inr j) d p v vs e i q =
       let k : held_with more a ≡ a = ap (λ l. held_with l a) j ∙ sym (nothing_more a) in
@@ -201,17 +221,27 @@ module _ (s : Schema) (lawful : IsLawful s) (a b failed : Held) (t : Finds a (fu
 
 pub held_members : CarriesMembers Finds TooFewHeld TooFewMembersHeld
 held_members = record {
-  list = λ z h n a b failed c t f. one_found (list_begins z h n) (due (around b.scopes)) (due a.scopes) a b failed c t (let k = t.taken in as_many (due (around b.scopes)) (due a.scopes) (ap (λ l. due (around l)) k.4)) f;
-  bag = λ z h n a b failed c t f. one_found (bag_begins z h n) (due (around b.scopes)) (due a.scopes) a b failed c t (let k = t.taken in as_many (due (around b.scopes)) (due a.scopes) (ap (λ l. due (around l)) k.4)) f;
+  list = λ z h n a b failed c t f. one_found (list_begins z h n) (due (around b.scopes)) (due a.scopes) a b failed c t
+      (let k = t.taken in as_many (due (around b.scopes)) (due a.scopes) (ap (λ l. due (around l)) k.4)) f;
+  bag = λ z h n a b failed c t f. one_found (bag_begins z h n) (due (around b.scopes)) (due a.scopes) a b failed c t
+      (let k = t.taken in as_many (due (around b.scopes)) (due a.scopes) (ap (λ l. due (around l)) k.4)) f;
   coming = λ a b failed c t f. (held_with f.0 b, subst (λ (s : Held). Finds s (further true) (held_with f.0 b)) (sym f.1) (finds_more f.0 a (further true) b t));
   member = λ s v a m b failed c t q f. (
     held_with f.0 m,
     held_with f.0 b,
     subst (λ (x : Held). Finds x (further true) (held_with f.0 m)) (sym f.1) (finds_more f.0 a (further true) m t),
     all_more f.0 (presents s v) m b q,
-    (f.0, refl, fewer (due (around b.scopes)) (due (around a.scopes)) a b failed f.0 (as_many (due (around b.scopes)) (due (around a.scopes)) (ap (λ l. due (around l)) (same_scopes s v m b q) ∙ ap (λ l. due l) (around_member (freedoms a.rules) (any_bitmap a.rules) (any_order a.rules) true a.octets a.scopes (state_of m) t.taken))) (λ i. all_within (presents s v) m b q (found_within a (further true) m t i)) f.2),
+    (
+      f.0,
+      refl,
+      fewer (due (around b.scopes)) (due (around a.scopes)) a b failed f.0
+          (as_many (due (around b.scopes)) (due (around a.scopes)) (ap (λ l. due (around l)) (same_scopes s v m b q) ∙
+          ap (λ l. due l) (around_member (freedoms a.rules) (any_bitmap a.rules) (any_order a.rules) true a.octets a.scopes (state_of m) t.taken)))
+          (λ i. all_within (presents s v) m b q (found_within a (further true) m t i)) f.2,
+    ),
   );
-  last = λ a b failed c t f. one_found (further false) (due b.scopes) (due (around a.scopes)) a b failed c t (as_many (due b.scopes) (due (around a.scopes)) (last_owed (freedoms a.rules) (any_bitmap a.rules) (any_order a.rules) a.octets a.scopes (state_of b) t.taken)) f;
+  last = λ a b failed c t f. one_found (further false) (due b.scopes) (due (around a.scopes)) a b failed c t
+      (as_many (due b.scopes) (due (around a.scopes)) (last_owed (freedoms a.rules) (any_bitmap a.rules) (any_order a.rules) a.octets a.scopes (state_of b) t.taken)) f;
   asked = held_asked;
   stuck = λ s lawful a b failed t h c d f g v vs e i q. stuck_by s lawful a b failed t h f.0 f.2 d (subst (λ (x : Held). Finds x (further true) d) f.1 g) v vs e i q;
 }

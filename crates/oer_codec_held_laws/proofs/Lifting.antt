@@ -29,7 +29,8 @@ nothing_taken a s l h e f =
     ∙ (ap (λ (t : ℕ). held_at a (state_of a) t) f
     ∙ ap (λ (t : Bool). let x : Held = record { octets = a.octets; scopes = a.scopes; levels = a.levels; most = a.most; failed = t; short = a.short; rules = a.rules } in x) (sym h))
 
-pub both_found : (rs : List Record) (a : Held) (s : State) (l : ℕ) → IsReady a → Chain (Takes (freedoms a.rules)) rs (state_of a) s → Chain (Level a.most) rs a.levels l → Chain Finds rs a (held_at a s l)
+pub both_found : (rs : List Record) (a : Held) (s : State) (l : ℕ) → IsReady a → Chain (Takes (freedoms a.rules)) rs (state_of a) s →
+    Chain (Level a.most) rs a.levels l → Chain Finds rs a (held_at a s l)
 both_found [] a s l h c d = nothing_taken a s l h c d
 both_found (r ∷ rs) a s l h c d =
     let next : Held = held_at a c.0 d.0 in

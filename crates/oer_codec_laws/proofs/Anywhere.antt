@@ -2,7 +2,10 @@
 use Rattle.std.proofs.Common.{◌≡◌, ℕ, zero, suc, ◌+◌, ltb, leb, Bool, true, false, cond, List, [], ◌∷◌, ◌++◌, length, map, Option, Some, None, option_map, take, refl, sym, subst}
 use Rattle.std.specs.Prelude.{ℤ, pos, negsuc, ◌^◌}
 use Rattle.asn1_model.specs.Value.{Value, truth, nothing, number, item, bit_list, octet_list, text, arcs, members, bag, fields, chosen, Values, no_more, member, Parts, end, absent, present, each}
-use Rattle.asn1_model.specs.Schema.{Tag, Range, Bounds, Counts, Presence, Schema, cut, boolean, null, integer, enumerated, bit_string, octet_string, character_string, object_identifier, sequence_of, set_of, sequence, set, group, choice, Components, no_component, component, Alternatives, no_alternative, alternative}
+use Rattle.asn1_model.specs.Schema.{Tag, Range, Bounds, Counts, Presence, Schema, cut, boolean, null, integer}
+use Rattle.asn1_model.specs.Schema.{enumerated, bit_string, octet_string, character_string, object_identifier}
+use Rattle.asn1_model.specs.Schema.{sequence_of, set_of, sequence, set, group, choice, Components, no_component}
+use Rattle.asn1_model.specs.Schema.{component, Alternatives, no_alternative, alternative}
 use Rattle.asn1_model.specs.Numbers.{digits, least_octets, signed_octets, complement}
 use Rattle.asn1_model.specs.Normal.{is_at_default, is_group_left_out}
 use Rattle.asn1_model.specs.Form.{exactly, refused, both, varied, within, Reads, only_if, given, joined, Bitmap, is_any_present, present_ones, stands_before, written}
@@ -137,7 +140,8 @@ module _ (free : Oer.Freedom → Bool) where
 
   pub spelled_moves : (o : Presence) (s : Schema) (v : Value) (x : Oer.OctetForm) → Moves x → Moves (Oer.spelled o s v x)
   unfolding Oer.spelled
-  spelled_moves o s v x h = moves_cond (is_at_default o s v) (moves_varied {c = Oer.default_spelled_out} (λ b. moves_if b h)) (moves_cond (is_group_left_out s v) (moves_varied {c = Oer.empty_group} (λ b. moves_if b h)) h)
+  spelled_moves o s v x h = moves_cond (is_at_default o s v) (moves_varied {c = Oer.default_spelled_out} (λ b. moves_if b h))
+      (moves_cond (is_group_left_out s v) (moves_varied {c = Oer.empty_group} (λ b. moves_if b h)) h)
 
   abbrev pub EachMoves : List (Option Oer.OctetForm) → Type 0
   EachMoves [] = Unit {0}
@@ -193,17 +197,20 @@ module _ (free : Oer.Freedom → Bool) where
   unfolding Oer.with_additions Oer.additions
   with_moves ms root xs h k = moves_both (moves_exactly _) (moves_both h (moves_both (counted_bits_move _) (joined_moves xs k)))
 
-  told_moves : (ms : List Bool) (root : Oer.OctetForm) (all : List (Option Oer.OctetForm)) → Moves root → EachMoves all → Moves (cond (is_any_present all) (Oer.with_additions ms root all) (varied Oer.empty_bitmap false (λ e. only_if e (Oer.with_additions ms root all))))
+  told_moves : (ms : List Bool) (root : Oer.OctetForm) (all : List (Option Oer.OctetForm)) → Moves root → EachMoves all →
+      Moves (cond (is_any_present all) (Oer.with_additions ms root all) (varied Oer.empty_bitmap false (λ e. only_if e (Oer.with_additions ms root all))))
   told_moves ms root all h k = moves_cond (is_any_present all) (with_moves ms root all h k) (moves_varied {c = Oer.empty_bitmap} (λ e. moves_if e (with_moves ms root all h k)))
 
-  tells_moves : (t : Bool) (ms : List Bool) (root : Oer.OctetForm) (all : List (Option Oer.OctetForm)) → Moves root → EachMoves all → Moves (given (cond t (Some all) None) (λ all. cond (is_any_present all) (Oer.with_additions ms root all) (varied Oer.empty_bitmap false (λ e. only_if e (Oer.with_additions ms root all)))))
+  tells_moves : (t : Bool) (ms : List Bool) (root : Oer.OctetForm) (all : List (Option Oer.OctetForm)) → Moves root → EachMoves all →
+      Moves (given (cond t (Some all) None) (λ all. cond (is_any_present all) (Oer.with_additions ms root all) (varied Oer.empty_bitmap false (λ e. only_if e (Oer.with_additions ms root all)))))
   tells_moves true ms root all h k = told_moves ms root all h k
   tells_moves false ms root all h k = moves_refused
 
   bitmapped_moves : (ms : List Bool) (root : Oer.OctetForm) (xs : List (Option Oer.OctetForm)) (b : Option Bitmap) → Moves root → EachMoves xs → Moves (Oer.bitmapped ms root xs b)
   unfolding Oer.bitmapped
   bitmapped_moves ms root xs None h k = moves_if _ (moves_both (moves_exactly _) h)
-  bitmapped_moves ms root xs (Some b) h k = tells_moves _ ms root (take b.covered xs ++ map (option_map (λ os. Oer.counted os)) b.further) h (before_moves b.covered xs _ k (each_unknown_moves b.further))
+  bitmapped_moves ms root xs (Some b) h k = tells_moves _ ms root (take b.covered xs ++ map (option_map (λ os. Oer.counted os)) b.further) h
+      (before_moves b.covered xs _ k (each_unknown_moves b.further))
 
   sequence_moves : (e : Bool) (ms : List Bool) (root : Oer.OctetForm) (xs : List (Option Oer.OctetForm)) → Moves root → EachMoves xs → Moves (Oer.sequence_form e ms root xs)
   unfolding Oer.sequence_form
@@ -252,7 +259,8 @@ module _ (free : Oer.Freedom → Bool) where
     form_moves object_identifier v = moves_refused
     form_moves (sequence_of z h s) (members vs) = list_moves h (λ v. Oer.form s v) (λ v. form_moves s v) vs
     form_moves (sequence_of z h s) v = moves_refused
-    form_moves (set_of z h s) (bag vs) = subst (λ l. Moves (Oer.in_any_order l (Oer.members_form h))) (sym (each_is_map (λ v. Oer.form s v) vs)) (bag_moves h (λ v. Oer.form s v) (λ v. form_moves s v) (listed vs))
+    form_moves (set_of z h s) (bag vs) = subst (λ l. Moves (Oer.in_any_order l (Oer.members_form h))) (sym (each_is_map (λ v. Oer.form s v) vs))
+        (bag_moves h (λ v. Oer.form s v) (λ v. form_moves s v) (listed vs))
     form_moves (set_of z h s) v = moves_refused
     form_moves (sequence cs e adds) (fields ps qs) = fields_move e (presence_bits cs ps) (Oer.component_forms cs ps) (Oer.addition_forms adds qs) (components_move cs ps) (additions_move adds qs)
     form_moves (sequence cs e adds) v = moves_refused
@@ -275,7 +283,8 @@ module _ (free : Oer.Freedom → Bool) where
     additions_move no_component end = tt
     additions_move no_component (absent qs) = tt
     additions_move no_component (present v qs) = tt
-    additions_move (component t o s cs) (present v qs) = more_move (Some (Oer.spelled o s v (Oer.open_type (Oer.form s v)))) (spelled_moves o s v _ (open_moves _), tt) (Oer.addition_forms cs qs) (additions_move cs qs)
+    additions_move (component t o s cs) (present v qs) = more_move (Some (Oer.spelled o s v (Oer.open_type (Oer.form s v))))
+        (spelled_moves o s v _ (open_moves _), tt) (Oer.addition_forms cs qs) (additions_move cs qs)
     additions_move (component t o s cs) (absent qs) = left_out_move (is_required o) (Oer.addition_forms cs qs) (additions_move cs qs)
     additions_move (component t o s cs) end = tt
 

@@ -40,14 +40,16 @@ module _ (free : Oer.Freedom → Bool) where
   append_moves (None ∷ xs) ys h k = append_moves xs ys h k
   append_moves (Some x ∷ xs) ys h k = moves_both free h.0 (append_moves xs ys h.1 k)
 
-  append_join : (xs : Forms) (ys : List Oer.OctetForm) → EachMoves free xs → Moves free (joined ys) → (os mid rest : List ℕ) → Front free (joined (present_ones xs)) os mid → Front free (joined ys) mid rest → Front free (joined (present_ones xs ++ ys)) os rest
+  append_join : (xs : Forms) (ys : List Oer.OctetForm) → EachMoves free xs → Moves free (joined ys) → (os mid rest : List ℕ) →
+      Front free (joined (present_ones xs)) os mid → Front free (joined ys) mid rest → Front free (joined (present_ones xs ++ ys)) os rest
   append_join [] ys h k os mid rest f g = subst (λ l. Front free (joined ys) l rest) (of_nothing free os mid f) g
   append_join (None ∷ xs) ys h k os mid rest f g = append_join xs ys h k os mid rest f g
   append_join (Some x ∷ xs) ys h k os mid rest f g =
       let q = split free x (joined (present_ones xs)) (joined_moves free xs h.1) os mid f in
       join free x (joined (present_ones xs ++ ys)) (append_moves xs ys h.1 k) os q.0 rest q.1 (append_join xs ys h.1 k q.0 mid rest q.2 g)
 
-  append_split : (xs : Forms) (ys : List Oer.OctetForm) → EachMoves free xs → Moves free (joined ys) → (os rest : List ℕ) → Front free (joined (present_ones xs ++ ys)) os rest → (mid : List ℕ) × Front free (joined (present_ones xs)) os mid × Front free (joined ys) mid rest
+  append_split : (xs : Forms) (ys : List Oer.OctetForm) → EachMoves free xs → Moves free (joined ys) → (os rest : List ℕ) →
+      Front free (joined (present_ones xs ++ ys)) os rest → (mid : List ℕ) × Front free (joined (present_ones xs)) os mid × Front free (joined ys) mid rest
   append_split [] ys h k os rest f = (os, nothing_front free os, f)
   append_split (None ∷ xs) ys h k os rest f = append_split xs ys h k os rest f
   append_split (Some x ∷ xs) ys h k os rest f =
@@ -56,12 +58,14 @@ module _ (free : Oer.Freedom → Bool) where
       (r.0, join free x (joined (present_ones xs)) (joined_moves free xs h.1) os q.0 r.0 q.1 r.1, r.2)
 
   -- ---- a bitmap with a bit set, or none
-  shown_in : (t : Bool) (x : Oer.OctetForm) (os rest : List ℕ) → (t ≡ true) ⊎ IsTrue (free Oer.empty_bitmap) → Front free x os rest → Front free (cond t x (varied Oer.empty_bitmap false (λ e. only_if e x))) os rest
+  shown_in : (t : Bool) (x : Oer.OctetForm) (os rest : List ℕ) → (t ≡ true) ⊎ IsTrue (free Oer.empty_bitmap) → Front free x os rest →
+      Front free (cond t x (varied Oer.empty_bitmap false (λ e. only_if e x))) os rest
   shown_in true x os rest d f = f
   shown_in false x os rest (inl e) f = cc
   shown_in false x os rest (inr d) f = varied_in free {c = Oer.empty_bitmap} (λ e. only_if e x) true d os rest f
 
-  shown_out : (t : Bool) (x : Oer.OctetForm) (os rest : List ℕ) → Front free (cond t x (varied Oer.empty_bitmap false (λ e. only_if e x))) os rest → ((t ≡ true) ⊎ IsTrue (free Oer.empty_bitmap)) × Front free x os rest
+  shown_out : (t : Bool) (x : Oer.OctetForm) (os rest : List ℕ) → Front free (cond t x (varied Oer.empty_bitmap false (λ e. only_if e x))) os rest →
+      ((t ≡ true) ⊎ IsTrue (free Oer.empty_bitmap)) × Front free x os rest
   unfolding Reads
   shown_out true x os rest f = (inl refl, f)
   shown_out false x os rest f =
@@ -74,17 +78,25 @@ module _ (free : Oer.Freedom → Bool) where
   Without ms y xs os rest = (mid : List ℕ) × (is_any_present xs ≡ false) × Front free (Oer.preamble (false ∷ ms)) os mid × Front free y mid rest
 
   abbrev With : List Bool → Oer.OctetForm → Forms → List ℕ → List ℕ → Type 0
-  With ms y xs os rest = (us : Octets) × (bs : List Bool) × (o1 : List ℕ) × (o2 : List ℕ) × (o3 : List ℕ) × (o4 : List ℕ) × (flags xs ≡ first_bits (length xs) bs) × (flags (unknown_forms us) ≡ drop (length xs) bs) × ((is_any_set bs ≡ true) ⊎ IsTrue (free Oer.empty_bitmap)) × Front free (Oer.preamble (true ∷ ms)) os o1 × Front free y o1 o2 × Front free (Oer.counted_bits bs) o2 o3 × Front free (joined (present_ones xs)) o3 o4 × Front free (joined (present_ones (unknown_forms us))) o4 rest
+  With ms y xs os rest = (us : Octets) × (bs : List Bool) × (o1 : List ℕ) × (o2 : List ℕ) × (o3 : List ℕ) × (o4 : List ℕ) ×
+      (flags xs ≡ first_bits (length xs) bs) × (flags (unknown_forms us) ≡ drop (length xs) bs) ×
+      ((is_any_set bs ≡ true) ⊎ IsTrue (free Oer.empty_bitmap)) × Front free (Oer.preamble (true ∷ ms)) os o1 × Front free y o1 o2 ×
+      Front free (Oer.counted_bits bs) o2 o3 × Front free (joined (present_ones xs)) o3 o4 × Front free (joined (present_ones (unknown_forms us))) o4 rest
 
   -- ---- the whole
   module _ (ms : List Bool) (y : Oer.OctetForm) (moves : Moves free y) (other : IsTrue (free Oer.other_bitmap)) where
     -- no bitmap
-    without_in : (xs : Forms) → is_any_present xs ≡ false → (os mid rest : List ℕ) → Front free (Oer.preamble (false ∷ ms)) os mid → Front free y mid rest → Front free (Oer.sequence_form true ms y xs) os rest
+    without_in : (xs : Forms) → is_any_present xs ≡ false → (os mid rest : List ℕ) → Front free (Oer.preamble (false ∷ ms)) os mid →
+        Front free y mid rest → Front free (Oer.sequence_form true ms y xs) os rest
     unfolding Oer.sequence_form Oer.bitmapped
-    without_in xs e os mid rest f g = varied_in free {c = Oer.other_bitmap} (λ b. Oer.bitmapped ms y xs b) None other os rest (if_in free (not (is_any_present xs)) (both (Oer.preamble (false ∷ ms)) y) os rest (ap not e) (join free (Oer.preamble (false ∷ ms)) y moves os mid rest f g))
+    without_in xs e os mid rest f g = varied_in free {c = Oer.other_bitmap} (λ b. Oer.bitmapped ms y xs b) None other os rest
+        (if_in free (not (is_any_present xs)) (both (Oer.preamble (false ∷ ms)) y) os rest (ap not e) (join free (Oer.preamble (false ∷ ms)) y moves os mid rest f g))
 
     -- with one
-    with_in : (xs : Forms) → EachMoves free xs → (us : Octets) (bs : List Bool) → flags xs ≡ first_bits (length xs) bs → flags (unknown_forms us) ≡ drop (length xs) bs → (is_any_set bs ≡ true) ⊎ IsTrue (free Oer.empty_bitmap) → (os o1 o2 o3 o4 rest : List ℕ) → Front free (Oer.preamble (true ∷ ms)) os o1 → Front free y o1 o2 → Front free (Oer.counted_bits bs) o2 o3 → Front free (joined (present_ones xs)) o3 o4 → Front free (joined (present_ones (unknown_forms us))) o4 rest → Front free (Oer.sequence_form true ms y xs) os rest
+    with_in : (xs : Forms) → EachMoves free xs → (us : Octets) (bs : List Bool) → flags xs ≡ first_bits (length xs) bs →
+        flags (unknown_forms us) ≡ drop (length xs) bs → (is_any_set bs ≡ true) ⊎ IsTrue (free Oer.empty_bitmap) → (os o1 o2 o3 o4 rest : List ℕ) →
+        Front free (Oer.preamble (true ∷ ms)) os o1 → Front free y o1 o2 → Front free (Oer.counted_bits bs) o2 o3 →
+        Front free (joined (present_ones xs)) o3 o4 → Front free (joined (present_ones (unknown_forms us))) o4 rest → Front free (Oer.sequence_form true ms y xs) os rest
     unfolding Oer.sequence_form Oer.bitmapped Oer.with_additions Oer.additions
     with_in xs h us bs e e' t os o1 o2 o3 o4 rest f g i j k =
         let c = covers (λ os. Oer.counted os) xs us bs e e' in
@@ -99,13 +111,17 @@ module _ (free : Oer.Freedom → Bool) where
         let a3 = join free y (both (Oer.counted_bits (flags all)) (joined (present_ones all))) m2 o1 o2 rest g a2 in
         let a4 = join free (Oer.preamble (true ∷ ms)) (both y (both (Oer.counted_bits (flags all)) (joined (present_ones all)))) (moves_both free moves m2) os o1 rest f a3 in
         let set : (is_any_present all ≡ true) ⊎ IsTrue (free Oer.empty_bitmap) = as_any t (ap is_any_set (sym c.3) ∙ any_set all) in
-        varied_in free {c = Oer.other_bitmap} (λ b. Oer.bitmapped ms y xs b) (Some c.0) other os rest (given_in free (covered_by (λ os. Oer.counted os) c.0 xs) (λ l. cond (is_any_present l) (Oer.with_additions ms y l) (varied Oer.empty_bitmap false (λ e. only_if e (Oer.with_additions ms y l)))) all c.2 os rest (shown_in (is_any_present all) (Oer.with_additions ms y all) os rest set a4))
+        varied_in free {c = Oer.other_bitmap} (λ b. Oer.bitmapped ms y xs b) (Some c.0) other os rest
+        (given_in free (covered_by (λ os. Oer.counted os) c.0 xs) (λ l.
+        cond (is_any_present l) (Oer.with_additions ms y l) (varied Oer.empty_bitmap false (λ e. only_if e (Oer.with_additions ms y l)))) all c.2
+        os rest (shown_in (is_any_present all) (Oer.with_additions ms y all) os rest set a4))
       where
         as_any : {all : Bool} {bs : Bool} → (bs ≡ true) ⊎ IsTrue (free Oer.empty_bitmap) → bs ≡ all → (all ≡ true) ⊎ IsTrue (free Oer.empty_bitmap)
         as_any (inl e) h = inl (sym h ∙ e)
         as_any (inr e) h = inr e
 
-    with_out : (xs : Forms) → EachMoves free xs → (all : Forms) → Told xs all → (is_any_present all ≡ true) ⊎ IsTrue (free Oer.empty_bitmap) → (os rest : List ℕ) → Front free (Oer.with_additions ms y all) os rest → With ms y xs os rest
+    with_out : (xs : Forms) → EachMoves free xs → (all : Forms) → Told xs all → (is_any_present all ≡ true) ⊎ IsTrue (free Oer.empty_bitmap) →
+        (os rest : List ℕ) → Front free (Oer.with_additions ms y all) os rest → With ms y xs os rest
     unfolding Oer.with_additions Oer.additions
     with_out xs h all t set os rest f =
         let ys : List Oer.OctetForm = present_ones (unknown_forms t.0) in
@@ -129,7 +145,8 @@ module _ (free : Oer.Freedom → Bool) where
         let q = split free (Oer.preamble (false ∷ ms)) y moves os rest t.1 in
         inl (q.0, adding.no_any (is_any_present xs) t.0, q.1, q.2)
     by_bitmap xs h (Some b) os rest f =
-        let t = given_out free (covered_by (λ os. Oer.counted os) b xs) (λ l. cond (is_any_present l) (Oer.with_additions ms y l) (varied Oer.empty_bitmap false (λ e. only_if e (Oer.with_additions ms y l)))) os rest f in
+        let t = given_out free (covered_by (λ os. Oer.counted os) b xs)
+        (λ l. cond (is_any_present l) (Oer.with_additions ms y l) (varied Oer.empty_bitmap false (λ e. only_if e (Oer.with_additions ms y l)))) os rest f in
         let q = shown_out (is_any_present t.0) (Oer.with_additions ms y t.0) os rest t.2 in
         inr (with_out xs h t.0 (told_of b xs t.0 t.1) q.0 os rest q.1)
 
@@ -163,7 +180,10 @@ module _ (free : Oer.Freedom → Bool) where
   Extensible adds qs ms y = given (Oer.addition_forms adds qs) (Oer.sequence_form true ms y)
 
   module _ (other : IsTrue (free Oer.other_bitmap)) (adds : Components) (ha : EachFinds free adds) (qs : Parts) where
-    extensible_in : (ms : List Bool) (y : Oer.OctetForm) → Moves free y → (x : Option Bool) (more : List Bool) (os mid o2 : List ℕ) (k : List Scope) (b : State) → is_some x ≡ true → Front free (Oer.preamble (preamble_bits x (ms ++ more))) os mid → Front free y mid o2 → Chain (Step free) (additions_begin (component_count adds) ∷ added_records adds qs) (o2, components x more ∷ k) b → Front free (Extensible adds qs ms y) os b.0 × (b.1 ≡ k)
+    extensible_in : (ms : List Bool) (y : Oer.OctetForm) → Moves free y →
+        (x : Option Bool) (more : List Bool) (os mid o2 : List ℕ) (k : List Scope) (b : State) → is_some x ≡ true →
+        Front free (Oer.preamble (preamble_bits x (ms ++ more))) os mid → Front free y mid o2 →
+        Chain (Step free) (additions_begin (component_count adds) ∷ added_records adds qs) (o2, components x more ∷ k) b → Front free (Extensible adds qs ms y) os b.0 × (b.1 ≡ k)
     extensible_in ms y moves None more os mid o2 k b e f g c = cc
     extensible_in ms y moves (Some true) (z ∷ more) os mid o2 k b e f g c = absurd c.1
     extensible_in ms y moves (Some false) (z ∷ more) os mid o2 k b e f g c = absurd c.1
@@ -191,7 +211,9 @@ module _ (free : Oer.Freedom → Bool) where
         let h : EachMoves free r.0 = all_move (Oer.addition_forms adds qs) (additions_move free adds qs) r.0 r.2 in
         (given_in free (Oer.addition_forms adds qs) (Oer.sequence_form true ms y) r.0 r.2 os b.0 (with_in ms y moves other r.0 h r.5.0 bs e1 e2 c.1.1 os mid o2 m.0 r.1 b.0 f' g c.1.2 r.4 r.5.2), r.6)
 
-    pub extended_in : (cs : Components) → EachFinds free cs → (ps : Parts) (a m b : State) → Begins free true (optional_count cs) a m → Chain (Step free) (root_records cs ps (additions_begin (component_count adds) ∷ added_records adds qs)) m b → Found free (Extensible adds qs (presence_bits cs ps) (Oer.component_forms cs ps)) a b
+    pub extended_in : (cs : Components) → EachFinds free cs → (ps : Parts) (a m b : State) → Begins free true (optional_count cs) a m →
+        Chain (Step free) (root_records cs ps (additions_begin (component_count adds) ∷ added_records adds qs)) m b →
+        Found free (Extensible adds qs (presence_bits cs ps) (Oer.component_forms cs ps)) a b
     extended_in cs h ps a m b t c =
         let o = begun_in free true cs h ps (additions_begin (component_count adds) ∷ added_records adds qs) a m b t c in
         extensible_in (presence_bits cs ps) (Oer.component_forms cs ps) (components_move free cs ps) o.0 o.1 a.0 o.2 o.3 a.1 b o.4 o.5 o.6 o.7
@@ -199,12 +221,14 @@ module _ (free : Oer.Freedom → Bool) where
   module _ (other : IsTrue (free Oer.other_bitmap)) (adds : Components) (ha : EachShows free adds) (qs : Parts) where
     -- what is held at the extension marker, with additions like these
     abbrev AtExtensionBit : List Bool → Oer.OctetForm → List ℕ → List Scope → State → Type 0
-    AtExtensionBit ms y os k b = (ss : Parts) × (x : Option Bool) × (mid : List ℕ) × (o2 : List ℕ) × LikeParts adds qs ss × (is_some x ≡ true) × Front free (Oer.preamble (preamble_bits x ms)) os mid × Front free y mid o2 × Chain (Step free) (additions_begin (component_count adds) ∷ added_records adds ss) (o2, components x [] ∷ k) b
+    AtExtensionBit ms y os k b = (ss : Parts) × (x : Option Bool) × (mid : List ℕ) × (o2 : List ℕ) × LikeParts adds qs ss × (is_some x ≡ true) ×
+        Front free (Oer.preamble (preamble_bits x ms)) os mid × Front free y mid o2 × Chain (Step free) (additions_begin (component_count adds) ∷ added_records adds ss) (o2, components x [] ∷ k) b
 
     no_unknown : (os : List ℕ) → Skips free [] os os
     no_unknown os = ([], refl, nothing_front free os)
 
-    at_extension_bit : (ms : List Bool) (y : Oer.OctetForm) (xs : Forms) → Oer.addition_forms adds qs ≡ Some xs → (os : List ℕ) (k : List Scope) (b : State) → b.1 ≡ k → Without ms y xs os b.0 ⊎ With ms y xs os b.0 → AtExtensionBit ms y os k b
+    at_extension_bit : (ms : List Bool) (y : Oer.OctetForm) (xs : Forms) → Oer.addition_forms adds qs ≡ Some xs →
+        (os : List ℕ) (k : List Scope) (b : State) → b.1 ≡ k → Without ms y xs os b.0 ⊎ With ms y xs os b.0 → AtExtensionBit ms y os k b
     at_extension_bit ms y xs e os k b scopes (inl w) =
         let n : ℕ = component_count adds in
         let l : length xs ≡ n = additions_long adds qs xs e in
@@ -222,13 +246,16 @@ module _ (free : Oer.Freedom → Bool) where
         let r = added_out free adds ha qs (first_bits n bs) (drop n bs) w.4 k b (xs, w.5, e, e1, w.12, (w.0, e2, w.13), scopes) in
         (r.0, Some true, w.2, w.3, r.1, refl, w.9, w.10, ((w.4, added (first_bits n bs) (drop n bs) ∷ k), (bs, w.8, w.11, refl), r.2))
 
-    extensible_out : (ms : List Bool) (y : Oer.OctetForm) → Moves free y → (os : List ℕ) (k : List Scope) (b : State) → Front free (Extensible adds qs ms y) os b.0 → b.1 ≡ k → AtExtensionBit ms y os k b
+    extensible_out : (ms : List Bool) (y : Oer.OctetForm) → Moves free y → (os : List ℕ) (k : List Scope) (b : State) →
+        Front free (Extensible adds qs ms y) os b.0 → b.1 ≡ k → AtExtensionBit ms y os k b
     extensible_out ms y moves os k b f scopes =
         let t = given_out free (Oer.addition_forms adds qs) (Oer.sequence_form true ms y) os b.0 f in
         at_extension_bit ms y t.0 t.1 os k b scopes (read_out ms y moves other t.0 (all_move (Oer.addition_forms adds qs) (additions_move free adds qs) t.0 t.1) os b.0 t.2)
 
     -- ---- SEQUENCE and SET with an extension marker
-    pub extended_out : (cs : Components) → EachShows free cs → (ps : Parts) (a b : State) → Found free (Extensible adds qs (presence_bits cs ps) (Oer.component_forms cs ps)) a b → (ss : Parts) × LikeParts adds qs ss × Closed free true cs ps (additions_begin (component_count adds) ∷ added_records adds ss) a b
+    pub extended_out : (cs : Components) → EachShows free cs → (ps : Parts) (a b : State) →
+        Found free (Extensible adds qs (presence_bits cs ps) (Oer.component_forms cs ps)) a b → (ss : Parts) × LikeParts adds qs ss ×
+        Closed free true cs ps (additions_begin (component_count adds) ∷ added_records adds ss) a b
     extended_out cs h ps a b f =
         let t = extensible_out (presence_bits cs ps) (Oer.component_forms cs ps) (components_move free cs ps) a.0 a.1 b f.0 f.1 in
         (t.0, t.4, begun_out free true cs h ps (additions_begin (component_count adds) ∷ added_records adds t.0) a b t.1 t.2 t.3 t.5 t.6 t.7 t.8)

@@ -53,7 +53,8 @@ apart_from u t (w ∷ us) i h e = by_head (λ j f. apart_from u t us j ((and_par
         let r : tag_same u w ≡ false = not_true (tag_same u w) ((and_parts _ _ h).0) in
         cc
 
-    later : ((j : ℕ) → tag_place t us ≡ Some j → tag_same t u ≡ false) → (i : ℕ) → cond (tag_same t w) (Some zero) (option_map suc (tag_place t us)) ≡ Some i → tag_same t w ≡ false → tag_same t u ≡ false
+    later : ((j : ℕ) → tag_place t us ≡ Some j → tag_same t u ≡ false) → (i : ℕ) → cond (tag_same t w) (Some zero) (option_map suc (tag_place t us))
+        ≡ Some i → tag_same t w ≡ false → tag_same t u ≡ false
     later again zero f g = let r = place_first _ _ f in cc
     later again (suc j) f g = again j (place_later _ _ j f)
 
@@ -80,7 +81,8 @@ module _ (free : Oer.Freedom → Bool) where
   abbrev Ended : Schema → Value → State → State → Type 0
   Ended s v m b = Chain (Step free) (presents s v ++ (ends ∷ [])) m b
 
-  root_in : (s : Schema) (v : Value) → Finds free s → (u : Tag) (a m b : State) (os : List ℕ) → Front free (Oer.tag_form u) a.0 os → Enters free false os a.1 m → Ended s v m b → Found free (both (Oer.tag_form u) (Oer.form s v)) a b
+  root_in : (s : Schema) (v : Value) → Finds free s → (u : Tag) (a m b : State) (os : List ℕ) → Front free (Oer.tag_form u) a.0 os →
+      Enters free false os a.1 m → Ended s v m b → Found free (both (Oer.tag_form u) (Oer.form s v)) a b
   root_in s v h u a m b os f t c =
       let q = chain_split (Step free) (presents s v) (ends ∷ []) (os, alternative ∷ a.1) b (from_state free (presents s v ++ (ends ∷ [])) m b os (alternative ∷ a.1) t c) in
       let g = h v (os, alternative ∷ a.1) q.0 q.1 in
@@ -101,14 +103,16 @@ module _ (free : Oer.Freedom → Bool) where
       let w = h v m n (q.2, refl) in
       (w.0, q.0, m, w.1, q.1, refl, chain_append (Step free) (presents s w.0) (ends ∷ []) m n b w.2 (b, state_same b (b.0, a.1) refl f.1, refl))
 
-  added_in : (s : Schema) (v : Value) → Finds free s → (u : Tag) (a m b : State) (os : List ℕ) → Front free (Oer.tag_form u) a.0 os → Enters free true os a.1 m → Ended s v m b → Found free (both (Oer.tag_form u) (Oer.open_type (Oer.form s v))) a b
+  added_in : (s : Schema) (v : Value) → Finds free s → (u : Tag) (a m b : State) (os : List ℕ) → Front free (Oer.tag_form u) a.0 os →
+      Enters free true os a.1 m → Ended s v m b → Found free (both (Oer.tag_form u) (Oer.open_type (Oer.form s v))) a b
   added_in s v h u a m b os f t c =
       let q = chain_split (Step free) (presents s v) (ends ∷ []) m b c in
       let g = h v m q.0 q.1 in
       let l : State = q.2.0 in
       let e : Closes free q.0.0 t.0 a.1 l = subst (λ x. Ends free q.0.0 x l) (g.1 ∙ t.2) q.2.1 in
       let w : b ≡ (t.0, a.1) = q.2.2 ∙ e.1 in
-      subst (λ x. Found free (both (Oer.tag_form u) (Oer.open_type (Oer.form s v))) a x) (sym w) (join free (Oer.tag_form u) (Oer.open_type (Oer.form s v)) (open_moves free (Oer.form s v)) a.0 os t.0 f (open_in free (Oer.form s v) os t.0 m.0 q.0.0 t.1 g.0 e.0), refl)
+      subst (λ x. Found free (both (Oer.tag_form u) (Oer.open_type (Oer.form s v))) a x) (sym w)
+      (join free (Oer.tag_form u) (Oer.open_type (Oer.form s v)) (open_moves free (Oer.form s v)) a.0 os t.0 f (open_in free (Oer.form s v) os t.0 m.0 q.0.0 t.1 g.0 e.0), refl)
 
   added_out : (s : Schema) (v : Value) → Shows free s → (u : Tag) (a b : State) → Found free (both (Oer.tag_form u) (Oer.open_type (Oer.form s v))) a b → Out true s v u a b
   added_out s v h u a b f =
@@ -120,7 +124,9 @@ module _ (free : Oer.Freedom → Bool) where
       (w.0, q.0, m, w.1, q.1, (b.0, z.2, refl), chain_append (Step free) (presents s w.0) (ends ∷ []) m n b w.2 (b, (z.4, state_same b (b.0, a.1) refl f.1), refl))
 
   -- ---- a table of alternatives
-  table_in : (plus : Bool) (others : Alternatives) → EachAlternative (λ s. Finds free s) others → (i : ℕ) (v : Value) (t : Tag) → tag_place t (alternative_tags others) ≡ Some i → (a m b : State) (os : List ℕ) → Front free (Oer.tag_form t) a.0 os → Enters free plus os a.1 m → Chain (Step free) (chosen_records others i v) m b → Found free (Oer.alternative_form plus others i v) a b
+  table_in : (plus : Bool) (others : Alternatives) → EachAlternative (λ s. Finds free s) others → (i : ℕ) (v : Value) (t : Tag) →
+      tag_place t (alternative_tags others) ≡ Some i → (a m b : State) (os : List ℕ) → Front free (Oer.tag_form t) a.0 os →
+      Enters free plus os a.1 m → Chain (Step free) (chosen_records others i v) m b → Found free (Oer.alternative_form plus others i v) a b
   unfolding chosen_records Oer.alternative_form
   table_in plus no_alternative h i v t e a m b os f g c = cc
   table_in false (other u s others) h zero v t e a m b os f g c = root_in s v h.0 u a m b os (subst (λ x. Front free (Oer.tag_form x) a.0 os) (same_tag t u (place_first _ _ e)) f) g c
@@ -129,7 +135,8 @@ module _ (free : Oer.Freedom → Bool) where
   table_in true (other u s others) h (suc i) v t e a m b os f g c = table_in true others h.1 i v t (place_later _ _ i e) a m b os f g c
 
   abbrev Read : Bool → Alternatives → ℕ → Value → State → State → Type 0
-  Read plus others i v a b = (t : Tag) × (os : List ℕ) × (m : State) × (w : Value) × (tag_place t (alternative_tags others) ≡ Some i) × Front free (Oer.tag_form t) a.0 os × Enters free plus os a.1 m × ((same v w ≡ true) × (are_no_bags others ≡ true → w ≡ v)) × Chain (Step free) (chosen_records others i w) m b
+  Read plus others i v a b = (t : Tag) × (os : List ℕ) × (m : State) × (w : Value) × (tag_place t (alternative_tags others) ≡ Some i) ×
+      Front free (Oer.tag_form t) a.0 os × Enters free plus os a.1 m × ((same v w ≡ true) × (are_no_bags others ≡ true → w ≡ v)) × Chain (Step free) (chosen_records others i w) m b
 
   first_place : (u : Tag) (us : List Tag) → tag_place u (u ∷ us) ≡ Some zero
   first_place u us = let e = itself u in rw e refl
@@ -137,14 +144,19 @@ module _ (free : Oer.Freedom → Bool) where
   later_place : (u t : Tag) (us : List Tag) (i : ℕ) → list_all (λ w. not (tag_same u w)) us ≡ true → tag_place t us ≡ Some i → tag_place t (u ∷ us) ≡ Some (suc i)
   later_place u t us i h e = let a = apart_from u t us i h e in rw (a, e) refl
 
-  table_out : (plus : Bool) (others : Alternatives) → EachAlternative (λ s. Shows free s) others → are_distinct tag_same (alternative_tags others) ≡ true → (i : ℕ) (v : Value) (a b : State) → Found free (Oer.alternative_form plus others i v) a b → Read plus others i v a b
+  table_out : (plus : Bool) (others : Alternatives) → EachAlternative (λ s. Shows free s) others →
+      are_distinct tag_same (alternative_tags others) ≡ true → (i : ℕ) (v : Value) (a b : State) → Found free (Oer.alternative_form plus others i v) a b → Read plus others i v a b
   unfolding chosen_records Oer.alternative_form
   table_out true no_alternative h d i v a b f = absurd (of_refused free a.0 b.0 f.0)
   table_out false no_alternative h d i v a b f = absurd (of_refused free a.0 b.0 f.0)
-  table_out false (other u s others) h d zero v a b f = let q = root_out s v h.0 u a b f in (u, q.1, q.2, q.0, first_place u (alternative_tags others), q.4, q.5, (q.3.0, λ e. q.3.1 ((and_parts _ _ e).0)), q.6)
-  table_out true (other u s others) h d zero v a b f = let q = added_out s v h.0 u a b f in (u, q.1, q.2, q.0, first_place u (alternative_tags others), q.4, q.5, (q.3.0, λ e. q.3.1 ((and_parts _ _ e).0)), q.6)
-  table_out false (other u s others) h d (suc i) v a b f = let p = and_parts _ _ d in let q = table_out false others h.1 p.1 i v a b f in (q.0, q.1, q.2, q.3, later_place u q.0 (alternative_tags others) i p.0 q.4, q.5, q.6, (q.7.0, λ e. q.7.1 ((and_parts _ _ e).1)), q.8)
-  table_out true (other u s others) h d (suc i) v a b f = let p = and_parts _ _ d in let q = table_out true others h.1 p.1 i v a b f in (q.0, q.1, q.2, q.3, later_place u q.0 (alternative_tags others) i p.0 q.4, q.5, q.6, (q.7.0, λ e. q.7.1 ((and_parts _ _ e).1)), q.8)
+  table_out false (other u s others) h d zero v a b f = let q = root_out s v h.0 u a b f in
+      (u, q.1, q.2, q.0, first_place u (alternative_tags others), q.4, q.5, (q.3.0, λ e. q.3.1 ((and_parts _ _ e).0)), q.6)
+  table_out true (other u s others) h d zero v a b f = let q = added_out s v h.0 u a b f in
+      (u, q.1, q.2, q.0, first_place u (alternative_tags others), q.4, q.5, (q.3.0, λ e. q.3.1 ((and_parts _ _ e).0)), q.6)
+  table_out false (other u s others) h d (suc i) v a b f = let p = and_parts _ _ d in let q = table_out false others h.1 p.1 i v a b f in
+      (q.0, q.1, q.2, q.3, later_place u q.0 (alternative_tags others) i p.0 q.4, q.5, q.6, (q.7.0, λ e. q.7.1 ((and_parts _ _ e).1)), q.8)
+  table_out true (other u s others) h d (suc i) v a b f = let p = and_parts _ _ d in let q = table_out true others h.1 p.1 i v a b f in
+      (q.0, q.1, q.2, q.3, later_place u q.0 (alternative_tags others) i p.0 q.4, q.5, q.6, (q.7.0, λ e. q.7.1 ((and_parts _ _ e).1)), q.8)
 
   -- ---- CHOICE
   pub choice_finds : (roots : Alternatives) (e : Bool) (adds : Alternatives) → EachAlternative (λ s. Finds free s) roots → EachAlternative (λ s. Finds free s) adds → Finds free (choice roots e adds)
@@ -154,13 +166,17 @@ module _ (free : Oer.Freedom → Bool) where
   choice_finds roots false adds h k (chosen true i v) a b c = let e = c.1.2.0 in cc
   choice_finds roots e adds h k v a b c = (none free a b).0 c
 
-  pub choice_shows : (roots : Alternatives) (e : Bool) (adds : Alternatives) → are_distinct tag_same (alternative_tags roots ++ alternative_tags adds) ≡ true → EachAlternative (λ s. Shows free s) roots → EachAlternative (λ s. Shows free s) adds → Shows free (choice roots e adds)
+  pub choice_shows : (roots : Alternatives) (e : Bool) (adds : Alternatives) → are_distinct tag_same (alternative_tags roots ++ alternative_tags adds)
+      ≡ true → EachAlternative (λ s. Shows free s) roots → EachAlternative (λ s. Shows free s) adds → Shows free (choice roots e adds)
   unfolding presents Oer.form
   choice_shows roots e adds d h k (chosen false i v) a b f =
       let q = table_out false roots h (distinct_before tag_same (alternative_tags roots) (alternative_tags adds) d) i v a b f in
       (chosen false i q.3, (chosen_same false i v q.3 q.7.0, λ n. ap (λ x. chosen false i x) (q.7.1 ((and_parts _ _ n).0))), (q.2, (q.0, q.1, q.4, q.5, q.6), q.8))
   choice_shows roots true adds d h k (chosen true i v) a b f =
-      let q = table_out true adds k (distinct_behind tag_same (alternative_tags roots) (alternative_tags adds) d) i v a b f in
-      (chosen true i q.3, (chosen_same true i v q.3 q.7.0, λ n. ap (λ x. chosen true i x) (q.7.1 ((and_parts _ _ n).1))), (q.2, (q.0, q.1, (refl, behind_all q.0 (alternative_tags roots) (alternative_tags adds) i d q.4, q.4), q.5, q.6), q.8))
+      let q = table_out true adds k (distinct_behind tag_same (alternative_tags roots) (alternative_tags adds) d) i v a b f in (
+        chosen true i q.3,
+        (chosen_same true i v q.3 q.7.0, λ n. ap (λ x. chosen true i x) (q.7.1 ((and_parts _ _ n).1))),
+        (q.2, (q.0, q.1, (refl, behind_all q.0 (alternative_tags roots) (alternative_tags adds) i d q.4, q.4), q.5, q.6), q.8),
+      )
   choice_shows roots false adds d h k (chosen true i v) a b f = absurd (of_refused free a.0 b.0 f.0)
   choice_shows roots e adds d h k v a b f = absurd (of_refused free a.0 b.0 f.0)

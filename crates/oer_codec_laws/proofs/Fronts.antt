@@ -11,7 +11,7 @@ use Rattle.asn1_schema_laws.specs.Presents.{presents}
 use Rattle.asn1_schema_laws.specs.Chains.{Chain}
 use Rattle.asn1_schema_laws.proofs.Chains.{chain_split, chain_append}
 use Rattle.oer_codec_laws.specs.Takes.{State, Scope, Front, Found, Takes}
-use Rattle.oer_codec_laws.specs.Ties.{Bridges}
+use Rattle.oer_codec_laws.specs.Laws.{Bridges}
 use Rattle.asn1_schema_reading_laws.proofs.Alike.{Like, noted_by, noted_same}
 use Rattle.oer_codec_laws.proofs.Next.{state_same}
 use Rattle.oer_codec_laws.proofs.Anywhere.{Moves}
@@ -66,7 +66,8 @@ module _ (free : Oer.Freedom → Bool) where
     in_front = append_assoc f.text g.text rest ∙ ap (λ l. f.text ++ l) g.in_front ∙ f.in_front;
   }
 
-  pub varied_in : {c : Oer.Freedom} {d : Oer.Detail c} (f : Oer.Detail c → Oer.OctetForm) (e : Oer.Detail c) → IsTrue (free c) → (os rest : List ℕ) → Front free (f e) os rest → Front free (varied c d f) os rest
+  pub varied_in : {c : Oer.Freedom} {d : Oer.Detail c} (f : Oer.Detail c → Oer.OctetForm) (e : Oer.Detail c) → IsTrue (free c) → (os rest : List ℕ) →
+      Front free (f e) os rest → Front free (varied c d f) os rest
   unfolding Reads
   varied_in f e t os rest x = record { text = x.text; has_form = (e, inr t, x.has_form); in_front = x.in_front }
 
@@ -97,7 +98,8 @@ module _ (free : Oer.Freedom → Bool) where
   let_through c false x p w d r = absurd r
 
   -- ---- records
-  pub single : (x : Oer.OctetForm) (r : Record) → ((a b : State) → Takes free a r b → Found free x a b) → ((a b : State) → Found free x a b → Takes free a r b) → (a b : State) → Chain Step (r ∷ []) a b ↔ Found free x a b
+  pub single : (x : Oer.OctetForm) (r : Record) → ((a b : State) → Takes free a r b → Found free x a b) →
+      ((a b : State) → Found free x a b → Takes free a r b) → (a b : State) → Chain Step (r ∷ []) a b ↔ Found free x a b
   single x r f g a b = (λ c. f a b (subst (λ m. Takes free a r m) (sym c.2) c.1), λ t. (b, g a b t, refl))
 
   pub mismatched : (rs : List Record) (a b : State) → Chain Step (mismatch ∷ rs) a b → ⊥
@@ -116,8 +118,10 @@ module _ (free : Oer.Freedom → Bool) where
   -- ---- what is noted after a component
   pub noted_in : (d g : Bool) (x : Oer.OctetForm) (a m b : State) → Found free x a m → Chain Step (noted_by d g) m b → Found free (spelled_by d g x) a b
   unfolding Reads
-  noted_in true g x a m b f c = subst (λ s. Found free (spelled_by true g x) a s) (sym (c.2 ∙ c.1.1)) (record { text = f.0.text; has_form = (true, inr c.1.0, f.0.has_form); in_front = f.0.in_front }, f.1)
-  noted_in false true x a m b f c = subst (λ s. Found free (spelled_by false true x) a s) (sym (c.2 ∙ c.1.1)) (record { text = f.0.text; has_form = (true, inr c.1.0, f.0.has_form); in_front = f.0.in_front }, f.1)
+  noted_in true g x a m b f c = subst (λ s. Found free (spelled_by true g x) a s) (sym (c.2 ∙ c.1.1))
+      (record { text = f.0.text; has_form = (true, inr c.1.0, f.0.has_form); in_front = f.0.in_front }, f.1)
+  noted_in false true x a m b f c = subst (λ s. Found free (spelled_by false true x) a s) (sym (c.2 ∙ c.1.1))
+      (record { text = f.0.text; has_form = (true, inr c.1.0, f.0.has_form); in_front = f.0.in_front }, f.1)
   noted_in false false x a m b f c = subst (λ s. Found free x a s) (sym c) f
 
   pub noted_out : (d g : Bool) (x : Oer.OctetForm) (a b : State) → Found free (spelled_by d g x) a b → Found free x a b × Chain Step (noted_by d g) b b
@@ -138,7 +142,9 @@ module _ (free : Oer.Freedom → Bool) where
       let q = chain_split Step (presents s v) (noted_by d g) a b c in
       noted_in d g (Oer.form s v) a q.0 b (h v a q.0 q.1) q.2
 
-  pub there_out : (s : Schema) → Shows free s → (o : Presence) (v : Value) (a b : State) → Found free (spelled_by (is_at_default o s v) (is_group_left_out s v) (Oer.form s v)) a b → (w : Value) × Like s v w × Chain Step (presents s w ++ noted_by (is_at_default o s w) (is_group_left_out s w)) a b
+  pub there_out : (s : Schema) → Shows free s → (o : Presence) (v : Value) (a b : State) →
+      Found free (spelled_by (is_at_default o s v) (is_group_left_out s v) (Oer.form s v)) a b → (w : Value) × Like s v w ×
+      Chain Step (presents s w ++ noted_by (is_at_default o s w) (is_group_left_out s w)) a b
   there_out s h o v a b f =
       let q = noted_out (is_at_default o s v) (is_group_left_out s v) (Oer.form s v) a b f in
       let r = h v a b q.0 in

@@ -10,7 +10,10 @@ use Rattle.std.specs.Prelude.{is_some}
 use Rattle.asn1_model.specs.Strings.{may_hold, identifier_octets, is_identifier}
 use Rattle.asn1_model.specs.Normal.{item_index}
 use Rattle.asn1_model.specs.Oer
-use Rattle.asn1_schema_laws.specs.Records.{Record, flag, nil, whole, one_of, bits, octets, characters, identifier, list_begins, bag_begins, further, sequence_begins, set_begins, group_begins, presence_bit, is_default, is_empty, additions_begin, addition, addition_ends, choice_begins, ends, mismatch, question, told}
+use Rattle.asn1_schema_laws.specs.Records.{Record, flag, nil, whole, one_of, bits, octets, characters, identifier}
+use Rattle.asn1_schema_laws.specs.Records.{list_begins, bag_begins, further, sequence_begins, set_begins, group_begins}
+use Rattle.asn1_schema_laws.specs.Records.{presence_bit, is_default, is_empty, additions_begin, addition, addition_ends}
+use Rattle.asn1_schema_laws.specs.Records.{choice_begins, ends, mismatch, question, told}
 use Rattle.asn1_laws_fronts.proofs.Fronts.{agree_map, agree_if, agree_nothing}
 use Rattle.asn1_laws_fronts.proofs.OerNumbers.{OctetsAlike, integer_alike, counted_alike, unsigned_alike}
 use Rattle.asn1_laws_fronts.proofs.OerBits.{preamble_alike, counted_bits_alike}
@@ -19,7 +22,9 @@ use Rattle.asn1_laws_fronts.proofs.Sevens.{identifiers_equal}
 use Rattle.asn1_laws_fronts.proofs.Additions as adding
 use Rattle.asn1_laws_fronts.proofs.OctetUnits.{items_alike, bit_strings_alike, octets_alike, one_length, characters_equal, characters_long}
 use Rattle.asn1_laws_fronts.proofs.Tags.{tags_alike}
-use Rattle.oer_codec_laws.specs.Takes.{Scope, components, added, open_type, members, alternative, State, Front, Found, Counted, NextMember, Begins, NextPresenceBit, AdditionsBegin, Opens, NextAddition, AdditionEnds, Skips, IsPlace, Enters, Chooses, Ends, Takes}
+use Rattle.oer_codec_laws.specs.Takes.{Scope, components, added, open_type, members, alternative, State, Front, Found}
+use Rattle.oer_codec_laws.specs.Takes.{ListBegins, NextMember, Begins, NextPresenceBit, AdditionsBegin, Opens}
+use Rattle.oer_codec_laws.specs.Takes.{NextAddition, AdditionEnds, Skips, IsPlace, Enters, Chooses, Ends, Takes}
 use Rattle.asn1_schema_reading_laws.specs.PresenceBits.{preamble_bits, first_bits}
 
 pub state_same : (b c : State) → b.0 ≡ c.0 → b.1 ≡ c.1 → b ≡ c
@@ -55,7 +60,8 @@ module _ (free : Oer.Freedom → Bool) where
 
   items : (roots : List ℤ) (e : Bool) (adds : List ℤ) (v w : ℤ) → OctetsAlike free (Oer.form (enumerated roots e adds) (item v)) (Oer.form (enumerated roots e adds) (item w)) (v ≡ w)
   unfolding Oer.form
-  items roots e adds v w = agree_if free (is_some (item_index v roots) || (e && is_some (item_index v adds))) (is_some (item_index w roots) || (e && is_some (item_index w adds))) _ _ (λ i j. items_alike free v w)
+  items roots e adds v w = agree_if free (is_some (item_index v roots) || (e && is_some (item_index v adds)))
+      (is_some (item_index w roots) || (e && is_some (item_index w adds))) _ _ (λ i j. items_alike free v w)
 
   integers : (z : Bounds) (h : Range) (v w : ℤ) → OctetsAlike free (Oer.form (integer z h) (number v)) (Oer.form (integer z h) (number w)) (v ≡ w)
   unfolding Oer.form
@@ -69,12 +75,14 @@ module _ (free : Oer.Freedom → Bool) where
   unfolding Oer.form
   octet_strings z h v w = agree_if free (admits z h (length v)) (admits z h (length w)) _ _ (λ i j. octets_alike free (Oer.is_fixed z) v w (λ f. one_length z h (length v) (length w) f i j))
 
-  strings : (k : StringKind) (z : Size) (l : Alphabet) (h : Counts) (v w : List ℕ) → OctetsAlike free (Oer.form (character_string k z l h) (text v)) (Oer.form (character_string k z l h) (text w)) (v ≡ w)
+  strings : (k : StringKind) (z : Size) (l : Alphabet) (h : Counts) (v w : List ℕ) →
+      OctetsAlike free (Oer.form (character_string k z l h) (text v)) (Oer.form (character_string k z l h) (text w)) (v ≡ w)
   unfolding Oer.form
   strings k z l h v w = agree_if free (admits z h (length v) && may_hold k v) (admits z h (length w) && may_hold k w) _ _ (λ i j.
       let i' = and_parts _ _ i in
       let j' = and_parts _ _ j in
-      agree_map free (λ e. characters_equal k v w i'.1 j'.1 e) (octets_alike free (Oer.is_fixed z) (Oer.string_octets k v) (Oer.string_octets k w) (λ f. characters_long k v w (one_length z h (length v) (length w) f i'.0 j'.0))))
+      agree_map free (λ e. characters_equal k v w i'.1 j'.1 e) (octets_alike free (Oer.is_fixed z) (Oer.string_octets k v) (Oer.string_octets k w)
+      (λ f. characters_long k v w (one_length z h (length v) (length w) f i'.0 j'.0))))
 
   identifiers : (v w : List ℕ) → OctetsAlike free (Oer.form object_identifier (arcs v)) (Oer.form object_identifier (arcs w)) (v ≡ w)
   unfolding Oer.form
@@ -85,7 +93,7 @@ module _ (free : Oer.Freedom → Bool) where
   nulls = agree_nothing free
 
   -- ---- lists and components
-  same_count : (h : Counts) (n m : ℕ) (a b c : State) → Counted free h n a b → Counted free h m a c → b ≡ c
+  same_count : (h : Counts) (n m : ℕ) (a b c : State) → ListBegins free h n a b → ListBegins free h m a c → b ≡ c
   same_count h n m a b c f g =
       let q = same_fronts (unsigned_alike free f.0 g.0) a.0 b.0 c.0 f.3 g.3 in
       state_same b c q.1 (f.4 ∙ ap (λ i. members i ∷ a.1) q.0 ∙ sym g.4)
@@ -95,7 +103,8 @@ module _ (free : Oer.Freedom → Bool) where
   same_member v w os (members (suc n) ∷ k) b c f g = (f.0 ∙ sym g.0, f.1 ∙ sym g.1)
   same_member v w os k b c f g = absurd f
 
-  same_preamble : (x y : Option Bool) (ms ns : List Bool) → is_some x ≡ is_some y → length ms ≡ length ns → (length (preamble_bits x ms) ≡ length (preamble_bits y ns)) × (preamble_bits x ms ≡ preamble_bits y ns → (x ≡ y) × (ms ≡ ns))
+  same_preamble : (x y : Option Bool) (ms ns : List Bool) → is_some x ≡ is_some y → length ms ≡ length ns →
+      (length (preamble_bits x ms) ≡ length (preamble_bits y ns)) × (preamble_bits x ms ≡ preamble_bits y ns → (x ≡ y) × (ms ≡ ns))
   same_preamble None None ms ns e l = (l, λ f. (refl, f))
   same_preamble None (Some y) ms ns e l = cc
   same_preamble (Some x) None ms ns e l = cc
@@ -148,7 +157,8 @@ module _ (free : Oer.Freedom → Bool) where
   same_entry false os k b c f g = f ∙ sym g
   same_entry true os k b c f g = same_open os k b c f g
 
-  same_choice : (roots : List Tag) (e : Bool) (others : List Tag) (v w : Bool) (i j : ℕ) (a b c : State) → Chooses free roots e others v i a b → Chooses free roots e others w j a c → (v ≡ w) × (i ≡ j) × (b ≡ c)
+  same_choice : (roots : List Tag) (e : Bool) (others : List Tag) (v w : Bool) (i j : ℕ) (a b c : State) → Chooses free roots e others v i a b →
+      Chooses free roots e others w j a c → (v ≡ w) × (i ≡ j) × (b ≡ c)
   same_choice roots e others v w i j a b c f g =
       let q = same_fronts (tags_alike free f.0 g.0) a.0 f.1 g.1 f.3 g.3 in
       let p = same_place roots e others g.0 v w i j (subst (λ t. IsPlace roots e others t v i) (same_tag f.0 g.0 q.0) f.2) g.2 in

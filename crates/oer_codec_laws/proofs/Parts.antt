@@ -1,7 +1,11 @@
 -- The records of scalars, elements and components, as a reader finds them.
 use Rattle.std.proofs.Common.{◌≡◌, ℕ, ℤ, zero, suc, ltb, Bool, true, false, cond, IsTrue, List, [], ◌∷◌, ◌++◌, length, replicate, Option, Some, refl, ap, sym, ◌∙◌, subst}
-use Rattle.asn1_model.specs.Value.{Value, truth, nothing, number, item, bit_list, octet_list, text, arcs, members as in_list, bag, Values, no_more, member, Parts, end, absent, present, each, values_of, same}
-use Rattle.asn1_model.specs.Schema.{Range, Bounds, Counts, Size, StringKind, Alphabet, Schema, boolean, null, integer, enumerated, bit_string, octet_string, character_string, object_identifier, sequence_of, set_of, Components, no_component, component}
+use Rattle.asn1_model.specs.Value.{Value, truth, nothing, number, item, bit_list, octet_list, text, arcs}
+use Rattle.asn1_model.specs.Value.{members as in_list, bag, Values, no_more, member, Parts, end, absent, present, each}
+use Rattle.asn1_model.specs.Value.{values_of, same}
+use Rattle.asn1_model.specs.Schema.{Range, Bounds, Counts, Size, StringKind, Alphabet, Schema, boolean, null, integer}
+use Rattle.asn1_model.specs.Schema.{enumerated, bit_string, octet_string, character_string, object_identifier}
+use Rattle.asn1_model.specs.Schema.{sequence_of, set_of, Components, no_component, component}
 use Rattle.asn1_model.specs.Normal.{is_at_default, is_group_left_out}
 use Rattle.asn1_model.specs.Numbers.{is_count_within}
 use Rattle.asn1_model.specs.Normal.{is_required, presence_bit_unless, presence_bits}
@@ -13,12 +17,16 @@ use Rattle.asn1_model.specs.Lawful.{member_count}
 use Rattle.asn1_schema_laws.specs.Presents.{presents, member_records, root_records, with_presence_bit}
 use Rattle.asn1_schema_laws.specs.Chains.{Chain}
 use Rattle.asn1_schema_laws.proofs.Chains.{chain_split, chain_append}
-use Rattle.oer_codec_laws.specs.Takes.{State, Scope, components, members, Front, Found, Counted}
-use Rattle.oer_codec_laws.specs.Ties.{Bridges}
+use Rattle.oer_codec_laws.specs.Takes.{State, Scope, components, members, Front, Found, ListBegins}
+use Rattle.oer_codec_laws.specs.Laws.{Bridges}
 use Rattle.oer_codec_laws.proofs.Next.{state_same}
 use Rattle.oer_codec_laws.proofs.Anywhere.{Moves, form_moves, components_move, all_move}
-use Rattle.asn1_schema_reading_laws.proofs.Alike.{LikeParts, LikeMembers, parts_self, like_present, like_absent, no_members, like_members, list_same, in_place, bag_like, Arranged, Ordered, reordered, noted_by}
-use Rattle.oer_codec_laws.proofs.Fronts.{Finds, Shows, Step, nothing_front, of_nothing, of_refused, split, join, varied_in, varied_out, given_in, given_out, if_out, single, none, from_state, from_scopes, spelled_by, there_in, there_out}
+use Rattle.asn1_schema_reading_laws.proofs.Alike.{LikeParts, LikeMembers, parts_self, like_present, like_absent}
+use Rattle.asn1_schema_reading_laws.proofs.Alike.{no_members, like_members, list_same, in_place, bag_like, Arranged}
+use Rattle.asn1_schema_reading_laws.proofs.Alike.{Ordered, reordered, noted_by}
+use Rattle.oer_codec_laws.proofs.Fronts.{Finds, Shows, Step, nothing_front, of_nothing, of_refused, split, join}
+use Rattle.oer_codec_laws.proofs.Fronts.{varied_in, varied_out, given_in, given_out, if_out, single, none, from_state}
+use Rattle.oer_codec_laws.proofs.Fronts.{from_scopes, spelled_by, there_in, there_out}
 
 abbrev AllBridge : (Oer.Freedom → Bool) → Schema → Type 0
 AllBridge free s = (v : Value) → Bridges free s v
@@ -83,7 +91,8 @@ module _ (free : Oer.Freedom → Bool) where
   joined_values : (s : Schema) (vs : Values) → Moves free (Joined s vs)
   joined_values s vs = all_move free (λ v. Oer.form s v) (λ v. form_moves free s v) vs
 
-  members_in : (s : Schema) → Finds free s → (vs : Values) (j : ℕ) (os : List ℕ) (k : List Scope) (b : State) → Chain (Step free) (member_records (λ v. presents s v) vs) (os, members j ∷ k) b → (j ≡ member_count vs) × Front free (Joined s vs) os b.0 × (b.1 ≡ k)
+  members_in : (s : Schema) → Finds free s → (vs : Values) (j : ℕ) (os : List ℕ) (k : List Scope) (b : State) →
+      Chain (Step free) (member_records (λ v. presents s v) vs) (os, members j ∷ k) b → (j ≡ member_count vs) × Front free (Joined s vs) os b.0 × (b.1 ≡ k)
   members_in s h no_more zero os k b c =
       let t = from_state free (ends ∷ []) c.0 b os (members zero ∷ k) c.1.1 c.2 in
       let e : b ≡ (os, k) = t.2 ∙ t.1 in
@@ -97,7 +106,8 @@ module _ (free : Oer.Freedom → Bool) where
       let r = members_in s h vs j q.0.0 k b (from_scopes free (member_records (λ w. presents s w) vs) q.0 b (members j ∷ k) f.1 q.2) in
       (ap suc r.0, join free (Oer.form s v) (Joined s vs) (joined_values s vs) os q.0.0 b.0 f.0 r.1, r.2)
 
-  members_out : (s : Schema) → Shows free s → (vs : Values) (os : List ℕ) (k : List Scope) (b : State) → Front free (Joined s vs) os b.0 → b.1 ≡ k → (ws : Values) × LikeMembers s vs ws × (member_count ws ≡ member_count vs) × Chain (Step free) (member_records (λ v. presents s v) ws) (os, members (member_count ws) ∷ k) b
+  members_out : (s : Schema) → Shows free s → (vs : Values) (os : List ℕ) (k : List Scope) (b : State) → Front free (Joined s vs) os b.0 → b.1 ≡ k →
+      (ws : Values) × LikeMembers s vs ws × (member_count ws ≡ member_count vs) × Chain (Step free) (member_records (λ v. presents s v) ws) (os, members (member_count ws) ∷ k) b
   members_out s h no_more os k b f e = (no_more, (no_members, λ q. refl), refl, ((os, members 0 ∷ k), (refl, refl), (b, state_same b (os, k) (of_nothing free os b.0 f) e, refl)))
   members_out s h (member v vs) os k b f e =
       let q = split free (Oer.form s v) (Joined s vs) (joined_values s vs) os b.0 f in
@@ -107,7 +117,8 @@ module _ (free : Oer.Freedom → Bool) where
       let w = h v here there (q.1, refl) in
       (member w.0 r.0, like_members s v w.0 vs r.0 w.1 r.1, ap suc r.2, (here, (refl, refl), chain_append (Step free) (presents s w.0) (member_records (λ x. presents s x) r.0) here there b w.2 r.3))
 
-  counted_in : (h : Counts) (s : Schema) → Finds free s → (vs : Values) (a m b : State) → Counted free h (member_count vs) a m → Chain (Step free) (member_records (λ v. presents s v) vs) m b → Found free (Oer.members_form h (each (λ v. Oer.form s v) vs)) a b
+  counted_in : (h : Counts) (s : Schema) → Finds free s → (vs : Values) (a m b : State) → ListBegins free h (member_count vs) a m →
+      Chain (Step free) (member_records (λ v. presents s v) vs) m b → Found free (Oer.members_form h (each (λ v. Oer.form s v) vs)) a b
   unfolding Oer.members_form
   counted_in h s finds vs a m b t c =
       let r = members_in s finds vs t.0 m.0 a.1 b (from_scopes free (member_records (λ v. presents s v) vs) m b (members t.0 ∷ a.1) t.4 c) in
@@ -117,7 +128,7 @@ module _ (free : Oer.Freedom → Bool) where
       (rw (n, t.1) g, r.2)
 
   abbrev CountedOut : Counts → Schema → Values → State → State → Type 0
-  CountedOut h s vs a b = (ws : Values) × (m : State) × LikeMembers s vs ws × Counted free h (member_count ws) a m × Chain (Step free) (member_records (λ v. presents s v) ws) m b
+  CountedOut h s vs a b = (ws : Values) × (m : State) × LikeMembers s vs ws × ListBegins free h (member_count ws) a m × Chain (Step free) (member_records (λ v. presents s v) ws) m b
 
   counted_out : (h : Counts) (s : Schema) → Shows free s → (vs : Values) (a b : State) → Found free (Oer.members_form h (each (λ v. Oer.form s v) vs)) a b → CountedOut h s vs a b
   unfolding Oer.members_form
@@ -147,11 +158,16 @@ module _ (free : Oer.Freedom → Bool) where
   bag_finds order z h s finds (bag vs) a b c =
       let xs : List Oer.OctetForm = each (λ v. Oer.form s v) vs in
       let f = counted_in h s finds vs a c.0 b c.1 c.2 in
-      let up : Option (List Oer.OctetForm) = ascending (λ x. written x 0) (stands_before ltb) xs in
-      (varied_in free {c = Oer.other_order} (λ o. given (in_order up o xs) (Oer.members_form h)) (Some (replicate (length xs) 0)) order a.0 b.0 (given_in free (arranged (replicate (length xs) 0) xs) (Oer.members_form h) xs (in_place xs) a.0 b.0 f.0), f.1)
+      let up : Option (List Oer.OctetForm) = ascending (λ x. written x 0) (stands_before ltb) xs in (
+        varied_in free {c = Oer.other_order} (λ o. given (in_order up o xs) (Oer.members_form h)) (Some (replicate (length xs) 0)) order a.0 b.0
+            (given_in free (arranged (replicate (length xs) 0) xs) (Oer.members_form h) xs (in_place xs) a.0 b.0 f.0),
+        f.1,
+      )
   bag_finds order z h s finds v a b c = (none free a b).0 c
 
-  ordered_out : (h : Counts) (s : Schema) → Shows free s → (vs : Values) (ys : List Oer.OctetForm) (a b : State) → Arranged (λ v. Oer.form s v) vs ys → Found free (Oer.members_form h ys) a b → (ws : Values) × (m : State) × (same (bag vs) (bag ws) ≡ true) × Counted free h (member_count ws) a m × Chain (Step free) (member_records (λ v. presents s v) ws) m b
+  ordered_out : (h : Counts) (s : Schema) → Shows free s → (vs : Values) (ys : List Oer.OctetForm) (a b : State) →
+      Arranged (λ v. Oer.form s v) vs ys → Found free (Oer.members_form h ys) a b → (ws : Values) × (m : State) × (same (bag vs) (bag ws) ≡ true) ×
+      ListBegins free h (member_count ws) a m × Chain (Step free) (member_records (λ v. presents s v) ws) m b
   ordered_out h s shows vs ys a b r f =
       let g : Found free (Oer.members_form h (each (λ v. Oer.form s v) (values_of r.1))) a b = subst (λ l. Found free (Oer.members_form h l) a b) (sym r.3) f in
       let t = counted_out h s shows (values_of r.1) a b g in
@@ -175,7 +191,9 @@ module _ (free : Oer.Freedom → Bool) where
   abbrev Goes : List Bool → Oer.OctetForm → List Record → List Record → Option Bool → List Scope → State → Type 0
   Goes bs y rs tail x k b = (ms : List Bool) (os : List ℕ) → Chain (Step free) tail (os, components x ms ∷ k) b → RootRead bs y rs x ms os k b
 
-  behind_it : (s : Schema) (v : Value) → Finds free s → (d g : Bool) (bs : List Bool) (y : Oer.OctetForm) → Moves free y → (rs tail : List Record) (x : Option Bool) (k : List Scope) (b : State) → Goes bs y rs tail x k b → Goes bs (both (spelled_by d g (Oer.form s v)) y) rs ((presents s v ++ noted_by d g) ++ tail) x k b
+  behind_it : (s : Schema) (v : Value) → Finds free s → (d g : Bool) (bs : List Bool) (y : Oer.OctetForm) → Moves free y →
+      (rs tail : List Record) (x : Option Bool) (k : List Scope) (b : State) → Goes bs y rs tail x k b →
+      Goes bs (both (spelled_by d g (Oer.form s v)) y) rs ((presents s v ++ noted_by d g) ++ tail) x k b
   behind_it s v h d g bs y moves rs tail x k b others ms os c =
       let q = chain_split (Step free) (presents s v ++ noted_by d g) tail (os, components x ms ∷ k) b c in
       let f = there_in free s v h d g (os, components x ms ∷ k) q.0 q.1 in
@@ -183,41 +201,50 @@ module _ (free : Oer.Freedom → Bool) where
       (r.0, r.1, r.2, join free (spelled_by d g (Oer.form s v)) y moves os q.0.0 r.0 f.0 r.3, r.4)
 
   -- a presence bit
-  behind_presence_bit : (t : Bool) (bs : List Bool) (y : Oer.OctetForm) (rs tail : List Record) (x : Option Bool) (k : List Scope) (b : State) → Goes bs y rs tail x k b → Goes (t ∷ bs) y rs (presence_bit t ∷ tail) x k b
+  behind_presence_bit : (t : Bool) (bs : List Bool) (y : Oer.OctetForm) (rs tail : List Record) (x : Option Bool) (k : List Scope) (b : State) →
+      Goes bs y rs tail x k b → Goes (t ∷ bs) y rs (presence_bit t ∷ tail) x k b
   behind_presence_bit t bs y rs tail x k b others [] os c = absurd c.1
   behind_presence_bit t bs y rs tail x k b others (m ∷ ms) os c =
       let r = others ms os (from_state free tail c.0 b os (components x ms ∷ k) c.1.1 c.2) in
       (r.0, r.1, ap (λ n. n ∷ ms) (sym c.1.0) ∙ ap (λ l. t ∷ l) r.2, r.3, r.4)
 
-  one_there : (q : Bool) (s : Schema) (v : Value) → Finds free s → (d g : Bool) (bs : List Bool) (y : Oer.OctetForm) → Moves free y → (rs tail : List Record) (x : Option Bool) (k : List Scope) (b : State) → Goes bs y rs tail x k b → Goes (presence_bit_unless q true bs) (both (spelled_by d g (Oer.form s v)) y) rs (with_presence_bit q (presents s v ++ noted_by d g) ++ tail) x k b
+  one_there : (q : Bool) (s : Schema) (v : Value) → Finds free s → (d g : Bool) (bs : List Bool) (y : Oer.OctetForm) → Moves free y →
+      (rs tail : List Record) (x : Option Bool) (k : List Scope) (b : State) → Goes bs y rs tail x k b →
+      Goes (presence_bit_unless q true bs) (both (spelled_by d g (Oer.form s v)) y) rs (with_presence_bit q (presents s v ++ noted_by d g) ++ tail) x k b
   one_there true s v h d g bs y moves rs tail x k b others = behind_it s v h d g bs y moves rs tail x k b others
   one_there false s v h d g bs y moves rs tail x k b others = behind_presence_bit true bs _ rs _ x k b (behind_it s v h d g bs y moves rs tail x k b others)
 
   nothing_there : (bs : List Bool) (y : Oer.OctetForm) (rs more : List Record) (x : Option Bool) (k : List Scope) (b : State) → Goes bs y rs (mismatch ∷ more) x k b
   nothing_there bs y rs more x k b ms os c = absurd c.1
 
-  one_absent : (q : Bool) (bs : List Bool) (y : Oer.OctetForm) (rs tail : List Record) (x : Option Bool) (k : List Scope) (b : State) → Goes bs y rs tail x k b → Goes (presence_bit_unless q false bs) (cond q refused y) rs (cond q (mismatch ∷ []) (presence_bit false ∷ []) ++ tail) x k b
+  one_absent : (q : Bool) (bs : List Bool) (y : Oer.OctetForm) (rs tail : List Record) (x : Option Bool) (k : List Scope) (b : State) →
+      Goes bs y rs tail x k b → Goes (presence_bit_unless q false bs) (cond q refused y) rs (cond q (mismatch ∷ []) (presence_bit false ∷ []) ++ tail) x k b
   one_absent true bs y rs tail x k b others = nothing_there bs refused rs tail x k b
   one_absent false bs y rs tail x k b others = behind_presence_bit false bs y rs tail x k b others
 
-  pub root_in : (cs : Components) → EachFinds free cs → (ps : Parts) (rs : List Record) (x : Option Bool) (k : List Scope) (b : State) → Goes (presence_bits cs ps) (Oer.component_forms cs ps) rs (root_records cs ps rs) x k b
+  pub root_in : (cs : Components) → EachFinds free cs → (ps : Parts) (rs : List Record) (x : Option Bool) (k : List Scope) (b : State) →
+      Goes (presence_bits cs ps) (Oer.component_forms cs ps) rs (root_records cs ps rs) x k b
   unfolding root_records Oer.component_forms Oer.spelled
   root_in no_component h end rs x k b = λ ms os c. (os, ms, refl, nothing_front free os, c)
   root_in no_component h (absent ps) rs x k b = nothing_there [] refused rs [] x k b
   root_in no_component h (present v ps) rs x k b = nothing_there [] refused rs [] x k b
-  root_in (component t o s cs) h (present v ps) rs x k b = one_there (is_required o) s v h.0 (is_at_default o s v) (is_group_left_out s v) (presence_bits cs ps) (Oer.component_forms cs ps) (components_move free cs ps) rs (root_records cs ps rs) x k b (root_in cs h.1 ps rs x k b)
+  root_in (component t o s cs) h (present v ps) rs x k b = one_there (is_required o) s v h.0 (is_at_default o s v) (is_group_left_out s v)
+      (presence_bits cs ps) (Oer.component_forms cs ps) (components_move free cs ps) rs (root_records cs ps rs) x k b (root_in cs h.1 ps rs x k b)
   root_in (component t o s cs) h (absent ps) rs x k b = one_absent (is_required o) (presence_bits cs ps) (Oer.component_forms cs ps) rs (root_records cs ps rs) x k b (root_in cs h.1 ps rs x k b)
   root_in (component t o s cs) h end rs x k b = nothing_there _ refused rs [] x k b
 
   -- and back
   abbrev RootOut : Components → Parts → List Record → Option Bool → List Bool → List ℕ → List Scope → State → Type 0
-  RootOut cs ps rs x more os k b = (qs : Parts) × LikeParts cs ps qs × (presence_bits cs qs ≡ presence_bits cs ps) × Chain (Step free) (root_records cs qs rs) (os, components x (presence_bits cs qs ++ more) ∷ k) b
+  RootOut cs ps rs x more os k b = (qs : Parts) × LikeParts cs ps qs × (presence_bits cs qs ≡ presence_bits cs ps) ×
+      Chain (Step free) (root_records cs qs rs) (os, components x (presence_bits cs qs ++ more) ∷ k) b
 
-  presence_bit_out : (q : Bool) (rs tail : List Record) (x : Option Bool) (bs more : List Bool) (os : List ℕ) (k : List Scope) (b : State) → Chain (Step free) (rs ++ tail) (os, components x (bs ++ more) ∷ k) b → Chain (Step free) (with_presence_bit q rs ++ tail) (os, components x (presence_bit_unless q true bs ++ more) ∷ k) b
+  presence_bit_out : (q : Bool) (rs tail : List Record) (x : Option Bool) (bs more : List Bool) (os : List ℕ) (k : List Scope) (b : State) →
+      Chain (Step free) (rs ++ tail) (os, components x (bs ++ more) ∷ k) b → Chain (Step free) (with_presence_bit q rs ++ tail) (os, components x (presence_bit_unless q true bs ++ more) ∷ k) b
   presence_bit_out true rs tail x bs more os k b c = c
   presence_bit_out false rs tail x bs more os k b c = ((os, components x (bs ++ more) ∷ k), (refl, refl), c)
 
-  pub root_out : (cs : Components) → EachShows free cs → (ps : Parts) (rs : List Record) (x : Option Bool) (more : List Bool) (os mid : List ℕ) (k : List Scope) (b : State) → Front free (Oer.component_forms cs ps) os mid → Chain (Step free) rs (mid, components x more ∷ k) b → RootOut cs ps rs x more os k b
+  pub root_out : (cs : Components) → EachShows free cs → (ps : Parts) (rs : List Record) (x : Option Bool) (more : List Bool) (os mid : List ℕ)
+      (k : List Scope) (b : State) → Front free (Oer.component_forms cs ps) os mid → Chain (Step free) rs (mid, components x more ∷ k) b → RootOut cs ps rs x more os k b
   unfolding root_records Oer.component_forms Oer.spelled
   root_out no_component h end rs x more os mid k b f c = (end, (parts_self end, λ e. refl), refl, subst (λ l. Chain (Step free) rs (l, components x more ∷ k) b) (of_nothing free os mid f) c)
   root_out no_component h (absent ps) rs x more os mid k b f c = absurd (of_refused free os mid f)
@@ -228,18 +255,30 @@ module _ (free : Oer.Freedom → Bool) where
       let here : State = (os, components x (presence_bits cs r.0 ++ more) ∷ k) in
       let there : State = (q.0, components x (presence_bits cs r.0 ++ more) ∷ k) in
       let w = there_out free s h.0 o v here there (q.1, refl) in
-      let its : List Record = presents s w.0 ++ noted_by (is_at_default o s w.0) (is_group_left_out s w.0) in
-      (present w.0 r.0, like_present t o s cs v w.0 ps r.0 w.1 r.1, ap (λ l. presence_bit_unless (is_required o) true l) r.2, presence_bit_out (is_required o) its (root_records cs r.0 rs) x (presence_bits cs r.0) more os k b (chain_append (Step free) its (root_records cs r.0 rs) here there b w.2 r.3))
+      let its : List Record = presents s w.0 ++ noted_by (is_at_default o s w.0) (is_group_left_out s w.0) in (
+        present w.0 r.0,
+        like_present t o s cs v w.0 ps r.0 w.1 r.1,
+        ap (λ l. presence_bit_unless (is_required o) true l) r.2,
+        presence_bit_out
+            (is_required o) its (root_records cs r.0 rs) x (presence_bits cs r.0) more os k b (chain_append (Step free) its (root_records cs r.0 rs) here there b w.2 r.3),
+      )
   root_out (component t o s cs) h (absent ps) rs x more os mid k b f c =
       let d = left_in (is_required o) (Oer.component_forms cs ps) os mid f in
-      let r = root_out cs h.1 ps rs x more os mid k b d.1 c in
-      (absent r.0, like_absent t o s cs ps r.0 r.1, ap (λ l. presence_bit_unless (is_required o) false l) r.2, left_back (is_required o) d.0 (root_records cs r.0 rs) x (presence_bits cs r.0) more os k b r.3)
+      let r = root_out cs h.1 ps rs x more os mid k b d.1 c in (
+        absent r.0,
+        like_absent t o s cs ps r.0 r.1,
+        ap (λ l. presence_bit_unless (is_required o) false l) r.2,
+        left_back (is_required o) d.0
+            (root_records cs r.0 rs) x (presence_bits cs r.0) more os k b r.3,
+      )
     where
       left_in : (q : Bool) (y : Oer.OctetForm) (os mid : List ℕ) → Front free (cond q refused y) os mid → (q ≡ false) × Front free y os mid
       left_in true y os mid f = absurd (of_refused free os mid f)
       left_in false y os mid f = (refl, f)
 
-      left_back : (q : Bool) → q ≡ false → (tail : List Record) (x : Option Bool) (bs more : List Bool) (os : List ℕ) (k : List Scope) (b : State) → Chain (Step free) tail (os, components x (bs ++ more) ∷ k) b → Chain (Step free) (cond q (mismatch ∷ []) (presence_bit false ∷ []) ++ tail) (os, components x (presence_bit_unless q false bs ++ more) ∷ k) b
+      left_back : (q : Bool) → q ≡ false → (tail : List Record) (x : Option Bool) (bs more : List Bool) (os : List ℕ) (k : List Scope) (b : State) →
+          Chain (Step free) tail (os, components x (bs ++ more) ∷ k) b →
+          Chain (Step free) (cond q (mismatch ∷ []) (presence_bit false ∷ []) ++ tail) (os, components x (presence_bit_unless q false bs ++ more) ∷ k) b
       left_back true e tail x bs more os k b c = cc
       left_back false e tail x bs more os k b c = ((os, components x (bs ++ more) ∷ k), (refl, refl), c)
   root_out (component t o s cs) h end rs x more os mid k b f c = absurd (of_refused free os mid f)

@@ -3,7 +3,10 @@ use Rattle.std.proofs.Common.{◌≡◌, ◌↔◌, ℕ, suc, Bool, true, false,
 use Rattle.std.proofs.lemmas.List.{append-nil}
 use Rattle.std.proofs.lemmas.Bool.{and_parts}
 use Rattle.asn1_model.specs.Value.{Value, fields, Parts, end, absent, present, same}
-use Rattle.asn1_model.specs.Schema.{Schema, cut, boolean, null, integer, enumerated, bit_string, octet_string, character_string, object_identifier, sequence_of, set_of, sequence, set, group, choice, Components, no_component, component, Alternatives, no_alternative, alternative}
+use Rattle.asn1_model.specs.Schema.{Schema, cut, boolean, null, integer, enumerated, bit_string, octet_string}
+use Rattle.asn1_model.specs.Schema.{character_string, object_identifier, sequence_of, set_of, sequence, set, group}
+use Rattle.asn1_model.specs.Schema.{choice, Components, no_component, component, Alternatives, no_alternative}
+use Rattle.asn1_model.specs.Schema.{alternative}
 use Rattle.asn1_model.specs.Form.{Reads, given}
 use Rattle.std.specs.Prelude.{is_some}
 use Rattle.asn1_model.specs.Lawful.{is_lawful, are_lawful, are_lawful_alternatives}
@@ -15,7 +18,7 @@ use Rattle.asn1_schema_laws.specs.Records.{Record, additions_begin, mismatch}
 use Rattle.asn1_schema_laws.specs.Presents.{presents, root_records, added_records, behind_root, optional_count, component_count}
 use Rattle.asn1_schema_laws.specs.Chains.{Chain}
 use Rattle.oer_codec_laws.specs.Takes.{State, components, Front, Found, Begins, Takes}
-use Rattle.oer_codec_laws.specs.Ties.{Bridges, FindsIn}
+use Rattle.oer_codec_laws.specs.Laws.{Bridges, FindsIn}
 use Rattle.asn1_schema_reading_laws.specs.Bags.{has_no_bag}
 use Rattle.asn1_schema_reading_laws.proofs.Alike.{LikeParts, parts_self, both_same, like_fields}
 use Rattle.oer_codec_laws.proofs.Fronts.{Finds, Shows, by_itself, Step, of_refused, given_out, none}
@@ -38,14 +41,16 @@ module _ (free : Oer.Freedom → Bool) (other : IsTrue (free Oer.other_bitmap)) 
   no_more cs h ps a m b t c = let o = begun_in free false cs h ps (mismatch ∷ []) a m b t c in o.7.1
 
   -- additions without an extension marker
-  no_additions : (cs : Components) → EachFinds free cs → (ps : Parts) (n : ℕ) (rs : List Record) (a m b : State) → Begins free false (optional_count cs) a m → Chain (Step free) (root_records cs ps (additions_begin n ∷ rs)) m b → ⊥
+  no_additions : (cs : Components) → EachFinds free cs → (ps : Parts) (n : ℕ) (rs : List Record) (a m b : State) →
+      Begins free false (optional_count cs) a m → Chain (Step free) (root_records cs ps (additions_begin n ∷ rs)) m b → ⊥
   no_additions cs h ps n rs a m b t c = let o = begun_in free false cs h ps (additions_begin n ∷ rs) a m b t c in without o.0 o.1 o.3 o.4 o.7
     where
       without : (x : Option Bool) (more : List Bool) (mid : List ℕ) → is_some x ≡ false → Chain (Step free) (additions_begin n ∷ rs) (mid, components x more ∷ a.1) b → ⊥
       without None more mid e c = c.1
       without (Some x) more mid e c = cc
 
-  fields_in : (cs : Components) → EachFinds free cs → (e : Bool) (adds : Components) → EachFinds free adds → (ps qs : Parts) (a m b : State) → Begins free e (optional_count cs) a m → Parted cs e adds ps qs m b → Found free (Fielded cs e adds ps qs) a b
+  fields_in : (cs : Components) → EachFinds free cs → (e : Bool) (adds : Components) → EachFinds free adds → (ps qs : Parts) (a m b : State) →
+      Begins free e (optional_count cs) a m → Parted cs e adds ps qs m b → Found free (Fielded cs e adds ps qs) a b
   unfolding Oer.sequence_form Oer.addition_forms added_records
   fields_in cs h true adds k ps qs a m b t c = extended_in free other adds k qs cs h ps a m b t c
   fields_in cs h false no_component k ps end a m b t c = plain_in free cs h ps a m b t c
@@ -56,7 +61,8 @@ module _ (free : Oer.Freedom → Bool) (other : IsTrue (free Oer.other_bitmap)) 
   abbrev FieldsOut : Components → Bool → Components → Parts → Parts → State → State → Type 0
   FieldsOut cs e adds ps qs a b = (rs : Parts) × (ss : Parts) × (m : State) × LikeParts cs ps rs × LikeParts adds qs ss × Begins free e (optional_count cs) a m × Parted cs e adds rs ss m b
 
-  fields_out : (cs : Components) → EachShows free cs → (e : Bool) (adds : Components) → EachShows free adds → (ps qs : Parts) (a b : State) → Found free (Fielded cs e adds ps qs) a b → FieldsOut cs e adds ps qs a b
+  fields_out : (cs : Components) → EachShows free cs → (e : Bool) (adds : Components) → EachShows free adds → (ps qs : Parts) (a b : State) →
+      Found free (Fielded cs e adds ps qs) a b → FieldsOut cs e adds ps qs a b
   unfolding Oer.sequence_form Oer.addition_forms added_records
   fields_out cs h true adds k ps qs a b f = let t = extended_out free other adds k qs cs h ps a b f in (t.2.0, t.0, t.2.1, t.2.2, t.1, t.2.3, t.2.4)
   fields_out cs h false no_component k ps end a b f = let t = plain_out free cs h ps a b f in (t.0, end, t.1, t.2, (parts_self end, λ n. refl), t.3, t.4)
@@ -66,7 +72,8 @@ module _ (free : Oer.Freedom → Bool) (other : IsTrue (free Oer.other_bitmap)) 
       let t = given_out free (Oer.addition_forms (component g o s adds) qs) (Oer.sequence_form false (presence_bits cs ps) (Oer.component_forms cs ps)) a.0 b.0 f.0 in
       absurd (refuses t.0 (additions_long free (component g o s adds) qs t.0 t.1) a.0 b.0 t.2)
     where
-      refuses : (xs : List (Option Oer.OctetForm)) → length xs ≡ suc (component_count adds) → (os rest : List ℕ) → Front free (Oer.sequence_form false (presence_bits cs ps) (Oer.component_forms cs ps) xs) os rest → ⊥
+      refuses : (xs : List (Option Oer.OctetForm)) → length xs ≡ suc (component_count adds) → (os rest : List ℕ) →
+          Front free (Oer.sequence_form false (presence_bits cs ps) (Oer.component_forms cs ps) xs) os rest → ⊥
       refuses [] e os rest f = cc
       refuses (x ∷ xs) e os rest f = of_refused free os rest f
 
@@ -130,7 +137,8 @@ module _ (free : Oer.Freedom → Bool) (other : IsTrue (free Oer.other_bitmap)) 
         let t = plain_out free cs (component_shows cs ((and_parts _ _ l).1)) ps a b f in
         (fields t.0 end, (both_same ps end t.0 end t.2.0 (parts_self end), λ n. ap (λ x. fields x end) (t.2.1 n)), (t.1, t.3, t.4))
     shows (group cs) l v a b f = absurd (of_refused free a.0 b.0 f.0)
-    shows (choice roots e adds) l v a b f = choice_shows free roots e adds ((and_parts _ _ ((and_parts _ _ ((and_parts _ _ l).0)).0)).1) (alternative_shows roots ((and_parts _ _ ((and_parts _ _ l).0)).1)) (alternative_shows adds ((and_parts _ _ l).1)) v a b f
+    shows (choice roots e adds) l v a b f = choice_shows free roots e adds ((and_parts _ _ ((and_parts _ _ ((and_parts _ _ l).0)).0)).1)
+        (alternative_shows roots ((and_parts _ _ ((and_parts _ _ l).0)).1)) (alternative_shows adds ((and_parts _ _ l).1)) v a b f
 
     component_shows : (cs : Components) → are_lawful cs ≡ true → EachShows free cs
     component_shows no_component l = tt
@@ -141,10 +149,12 @@ module _ (free : Oer.Freedom → Bool) (other : IsTrue (free Oer.other_bitmap)) 
     alternative_shows (alternative t s others) l = (shows s ((and_parts _ _ ((and_parts _ _ l).0)).1), alternative_shows others ((and_parts _ _ l).1))
 
 -- ---- the laws
-pub records_read : (free : Oer.Freedom → Bool) (s : Schema) (v : Value) (a b : State) → IsTrue (free Oer.other_bitmap) → IsTrue (free Oer.other_order) → Chain (Takes free) (presents s v) a b → Found free (Oer.form s v) a b
+pub records_read : (free : Oer.Freedom → Bool) (s : Schema) (v : Value) (a b : State) → IsTrue (free Oer.other_bitmap) →
+    IsTrue (free Oer.other_order) → Chain (Takes free) (presents s v) a b → Found free (Oer.form s v) a b
 records_read free s v a b other order c = finds free other order s v a b c
 
-pub forms_show : (free : Oer.Freedom → Bool) (s : Schema) (v : Value) (a b : State) → IsTrue (free Oer.other_bitmap) → IsTrue (is_lawful s) → Found free (Oer.form s v) a b → (w : Value) × (same v w ≡ true) × Chain (Takes free) (presents s w) a b
+pub forms_show : (free : Oer.Freedom → Bool) (s : Schema) (v : Value) (a b : State) → IsTrue (free Oer.other_bitmap) → IsTrue (is_lawful s) →
+    Found free (Oer.form s v) a b → (w : Value) × (same v w ≡ true) × Chain (Takes free) (presents s w) a b
 forms_show free s v a b other l f = let t = shows free other s l v a b f in (t.0, t.1.0, t.2)
 
 pub each_bridges : (free : Oer.Freedom → Bool) (s : Schema) (v : Value) → IsTrue (free Oer.other_bitmap) → IsTrue (free Oer.other_order) → IsTrue (is_lawful s) → has_no_bag s ≡ true → Bridges free s v
@@ -158,8 +168,16 @@ whole_octets free x w = (λ f. subst (λ l. Reads free x 0 l) (sym (append-nil f
 
 pub finds_oer : FindsIn oer lenient
 unfolding IsEncoding
-finds_oer s v w h = (λ c. (h, (whole_octets lenient (Oer.form s v) w).0 (records_read lenient s v (w, []) ([], []) refl refl c).0), λ l r. forms_show lenient s v (w, []) ([], []) refl l ((whole_octets lenient (Oer.form s v) w).1 r.1, refl))
+finds_oer s v w h = (
+  λ c. (h, (whole_octets lenient (Oer.form s v) w).0 (records_read lenient s v (w, []) ([], []) refl refl c).0),
+  λ l r.
+      forms_show lenient s v (w, []) ([], []) refl l ((whole_octets lenient (Oer.form s v) w).1 r.1, refl),
+)
 
 pub finds_coer : FindsIn coer strict_oer
 unfolding IsEncoding
-finds_coer s v w h = (λ c. (h, (whole_octets strict_oer (Oer.form s v) w).0 (records_read strict_oer s v (w, []) ([], []) refl refl c).0), λ l r. forms_show strict_oer s v (w, []) ([], []) refl l ((whole_octets strict_oer (Oer.form s v) w).1 r.1, refl))
+finds_coer s v w h = (
+  λ c. (h, (whole_octets strict_oer (Oer.form s v) w).0 (records_read strict_oer s v (w, []) ([], []) refl refl c).0),
+  λ l r.
+      forms_show strict_oer s v (w, []) ([], []) refl l ((whole_octets strict_oer (Oer.form s v) w).1 r.1, refl),
+)

@@ -1,2 +1,2 @@
 pub mod Takes
-pub mod Ties
+pub mod Laws

@@ -48,8 +48,8 @@ Found free x a b = Front free x a.0 b.0 × (b.1 ≡ a.1)
 
 -- The number of elements, before them (X.696 17 and 19): one that the Rust type holds, as is the number in the record.
 -- That the two are equal is known at the end.
-abbrev pub Counted : (Oer.Freedom → Bool) → Counts → ℕ → State → State → Type 0
-Counted free h n a b =
+abbrev pub ListBegins : (Oer.Freedom → Bool) → Counts → ℕ → State → State → Type 0
+ListBegins free h n a b =
     (m : ℕ) × (is_count_within h n ≡ true) × (is_count_within h m ≡ true) × Front free (Oer.unsigned m) a.0 b.0
     × (b.1 ≡ members m ∷ a.1)
 
@@ -155,8 +155,8 @@ Takes free a (bits z h v) b = Found free (Oer.form (bit_string z h) (bit_list v)
 Takes free a (octets z h v) b = Found free (Oer.form (octet_string z h) (octet_list v)) a b
 Takes free a (characters k z l h v) b = Found free (Oer.form (character_string k z l h) (text v)) a b
 Takes free a (identifier v) b = Found free (Oer.form object_identifier (arcs v)) a b
-Takes free a (list_begins z h n) b = Counted free h n a b
-Takes free a (bag_begins z h n) b = Counted free h n a b
+Takes free a (list_begins z h n) b = ListBegins free h n a b
+Takes free a (bag_begins z h n) b = ListBegins free h n a b
 Takes free a (further v) b = NextMember v a.0 a.1 b
 Takes free a (sequence_begins e n) b = Begins free e n a b
 Takes free a (set_begins e n) b = Begins free e n a b

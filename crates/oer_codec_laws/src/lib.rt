@@ -3,8 +3,8 @@
 //! from the canonical encoding that a reader accepts. The functions do nothing: each contract is a law.
 #![tactic(auto)]
 
-ghost use Rattle.oer_codec_laws.specs.Ties.{CountHeld, EachBridges, FindsEncodings, FormsShow, OneTaken, RecordsFit};
-ghost use Rattle.oer_codec_laws.specs.Ties.{RecordsRead};
+ghost use Rattle.oer_codec_laws.specs.Laws.{CountHeld, EachBridges, FindsEncodings, FormsShow, OneTaken, RecordsFit};
+ghost use Rattle.oer_codec_laws.specs.Laws.{RecordsRead};
 
 /// Among the records that answer the same question at most one is next, and one state follows it, whatever the
 /// reader's freedoms are.

@@ -1,5 +1,6 @@
 -- What is next is also next with a few octets appended, and missing elements lack the octets that the laws say.
-use Rattle.std.proofs.Common.{◌≡◌, ◌⊎◌, inl, inr, ◌≤◌, ◌<◌, ℕ, zero, suc, ◌+◌, ◌-◌, Bool, true, false, cond, IsTrue, List, [], ◌∷◌, ◌++◌, length, drop, Option, Some, None, refl, ap, sym, ◌∙◌, subst, arith}
+use Rattle.std.proofs.Common.{◌≡◌, ◌⊎◌, inl, inr, ◌≤◌, ◌<◌, ℕ, zero, suc, ◌+◌, ◌-◌, Bool, true, false, cond, IsTrue}
+use Rattle.std.proofs.Common.{List, [], ◌∷◌, ◌++◌, length, drop, Option, Some, None, refl, ap, sym, ◌∙◌, subst, arith}
 use Rattle.std.proofs.lemmas.Bool.{cases_lt}
 use Rattle.asn1_model.specs.Value.{Value, Values}
 use Rattle.asn1_model.specs.Schema.{Schema, Size, Counts}
@@ -7,11 +8,16 @@ use Rattle.asn1_model.specs.Lawful.{IsLawful}
 use Rattle.asn1_model.specs.Oer
 use Rattle.asn1_schema_reading_laws.specs.PresenceBits.{first_bits}
 use Rattle.asn1_schema_reading_laws.proofs.Fitting
-use Rattle.asn1_schema_laws.specs.Records.{Record, flag, nil, whole, one_of, bits, octets, characters, identifier, list_begins, bag_begins, further, sequence_begins, set_begins, group_begins, presence_bit, is_default, is_empty, additions_begin, addition, addition_ends, choice_begins, ends, mismatch}
+use Rattle.asn1_schema_laws.specs.Records.{Record, flag, nil, whole, one_of, bits, octets, characters, identifier}
+use Rattle.asn1_schema_laws.specs.Records.{list_begins, bag_begins, further, sequence_begins, set_begins, group_begins}
+use Rattle.asn1_schema_laws.specs.Records.{presence_bit, is_default, is_empty, additions_begin, addition, addition_ends}
+use Rattle.asn1_schema_laws.specs.Records.{choice_begins, ends, mismatch}
 use Rattle.asn1_schema_laws.specs.Presents.{presents, member_records, Fits}
 use Rattle.asn1_schema_laws.specs.Chains.{Chain}
 use Rattle.asn1_schema_laws.proofs.Chains.{chain_split}
-use Rattle.oer_codec_laws.specs.Takes.{State, Scope, components, added, open_type, members, alternative, Found, NextMember, NextPresenceBit, AdditionsBegin, NextAddition, AdditionEnds, Chooses, Enters, Ends, Takes}
+use Rattle.oer_codec_laws.specs.Takes.{State, Scope, components, added, open_type, members, alternative, Found}
+use Rattle.oer_codec_laws.specs.Takes.{NextMember, NextPresenceBit, AdditionsBegin, NextAddition, AdditionEnds, Chooses}
+use Rattle.oer_codec_laws.specs.Takes.{Enters, Ends, Takes}
 use Rattle.oer_codec_laws.proofs.Whole.{records_read}
 use Rattle.oer_codec_longer_laws.specs.More.{is_within, octets_with, scopes_with, with_more}
 use Rattle.oer_codec_longer_laws.specs.Few.{due, around, FewMore, TooFew, TooFewMembers, FewCarried}
@@ -128,7 +134,8 @@ module _ (free : Oer.Freedom → Bool) where
     pub coming : (n : ℕ) (a b c : State) → Takes free a (further true) b → TooFewMembers n a c → (d : State) × Takes free c (further true) d
     coming n a b c t f = (with_more f.0 b, subst (λ s. Takes free s (further true) (with_more f.0 b)) (sym f.1) (takes_more free f.0 a (further true) b t))
 
-    pub next_member : (n : ℕ) (s : Schema) (v : Value) (a m b c : State) → Takes free a (further true) m → Chain (Takes free) (presents s v) m b → TooFewMembers n a c → (d : State) × (e : State) × Takes free c (further true) d × Chain (Takes free) (presents s v) d e × TooFewMembers n b e
+    pub next_member : (n : ℕ) (s : Schema) (v : Value) (a m b c : State) → Takes free a (further true) m → Chain (Takes free) (presents s v) m b →
+        TooFewMembers n a c → (d : State) × (e : State) × Takes free c (further true) d × Chain (Takes free) (presents s v) d e × TooFewMembers n b e
     next_member n s v a m b c t q f =
         let g = subst (λ s. Takes free s (further true) (with_more f.0 m)) (sym f.1) (takes_more free f.0 a (further true) m t) in
         let h = chain_more free f.0 (presents s v) m b q in
@@ -146,7 +153,8 @@ module _ (free : Oer.Freedom → Bool) where
         let g = subst (λ s. Takes free s (further false) (with_more f.0 b)) (sym f.1) (takes_more free f.0 a (further false) b t) in
         (with_more f.0 b, g, fewer_owed n (due b.1) (due (around a.1)) a b f.0 (same_owed b.1 (around a.1) (last_owed a.0 a.1 b t)) f.2)
 
-    pub asked : (n : ℕ) (a : State) → ((c : State) → TooFew n a c → (v : Bool) (d : State) → Takes free c (further v) d → ⊥) → (c : State) → TooFewMembers n a c → (v : Bool) (d : State) → Takes free c (further v) d → ⊥
+    pub asked : (n : ℕ) (a : State) → ((c : State) → TooFew n a c → (v : Bool) (d : State) → Takes free c (further v) d → ⊥) → (c : State) →
+        TooFewMembers n a c → (v : Bool) (d : State) → Takes free c (further v) d → ⊥
     asked n a h c f v d t =
         let z = member_back free f.0 v a.0 a.1 d (subst (λ s. Takes free s (further v) d) f.1 t) in
         h a (at_once n a) v z.0 z.2
@@ -158,14 +166,16 @@ module _ (free : Oer.Freedom → Bool) where
     fits : (s : Schema) (v : Value) (a b : State) → Chain (Takes free) (presents s v) a b → Fits s v
     fits s v a b t = Fitting.records_fit _ _ (λ x y m. m) s v a b t
 
-    stuck_at : (n : ℕ) (s : Schema) → IsLawful s → (j : ℕ) (os : List ℕ) (k : List Scope) → Absent n s (os, members j ∷ k) → (e : List ℕ) → (length e + due k ≤ n) ⊎ (e ≡ []) → (v : Value) (vs : Values) (c : State) → Chain (Takes free) (presents s v ++ member_records (λ w. presents s w) vs) (with_more e (os, members j ∷ k)) c → ⊥
+    stuck_at : (n : ℕ) (s : Schema) → IsLawful s → (j : ℕ) (os : List ℕ) (k : List Scope) → Absent n s (os, members j ∷ k) → (e : List ℕ) →
+        (length e + due k ≤ n) ⊎ (e ≡ []) → (v : Value) (vs : Values) (c : State) → Chain (Takes free) (presents s v ++ member_records (λ w. presents s w) vs) (with_more e (os, members j ∷ k)) c → ⊥
     stuck_at n s l j os k h e (inr q) v vs c t =
         let a : State = (os, members j ∷ k) in
         let z = chain_split (Takes free) (presents s v) (member_records (λ w. presents s w) vs) (with_more e a) c t in
         h (with_more e a) (e, refl, inr q) v z.0 (fits s v (with_more e a) z.0 z.1) z.1
     stuck_at n s l j os k h e (inl q) v vs c t = by_case (is_within k) refl
       where
-        here : (m : ℕ) → (m + (j + due k) ≤ n) ⊎ (m ≡ 0) → is_within k ≡ false → (f : List ℕ) (u : Value) (d : State) → length f ≤ m → Chain (Takes free) (presents s u) (with_more f (os, members j ∷ k)) d → ⊥
+        here : (m : ℕ) → (m + (j + due k) ≤ n) ⊎ (m ≡ 0) → is_within k ≡ false → (f : List ℕ) (u : Value) (d : State) → length f ≤ m →
+            Chain (Takes free) (presents s u) (with_more f (os, members j ∷ k)) d → ⊥
         here m (inl i) w f u d g x =
             let o : due (members j ∷ k) ≡ j + due k = ap (λ b. cond b (due k) (j + due k)) w in
             h (with_more f (os, members j ∷ k)) (f, refl, inl (omega arith)) u d (fits s u (with_more f (os, members j ∷ k)) d x) x
@@ -183,13 +193,16 @@ module _ (free : Oer.Freedom → Bool) where
           | inr i ↦ lacking free s (n - (j + due k)) j os k other order l w (here (n - (j + due k)) (inl (omega arith)) w) e v vs c (omega arith) t
         ]
 
-    stuck_from : (n : ℕ) (s : Schema) → IsLawful s → (os : List ℕ) (k : List Scope) (b : State) → NextMember true os k b → Absent n s b → (e : List ℕ) → (length e + due (around k) ≤ n) ⊎ (e ≡ []) → (d : State) → NextMember true (octets_with e k os) (scopes_with e k) d → (v : Value) (vs : Values) (c : State) → Chain (Takes free) (presents s v ++ member_records (λ w. presents s w) vs) d c → ⊥
+    stuck_from : (n : ℕ) (s : Schema) → IsLawful s → (os : List ℕ) (k : List Scope) (b : State) → NextMember true os k b → Absent n s b →
+        (e : List ℕ) → (length e + due (around k) ≤ n) ⊎ (e ≡ []) → (d : State) → NextMember true (octets_with e k os) (scopes_with e k) d →
+        (v : Value) (vs : Values) (c : State) → Chain (Takes free) (presents s v ++ member_records (λ w. presents s w) vs) d c → ⊥
     stuck_from n s l os (members zero ∷ k) b f h e q d g v vs c t = let e : true ≡ false = f.0 in cc
     stuck_from n s l os (members (suc j) ∷ k) b f h e q d g v vs c t =
         stuck_at n s l j os k (subst (λ x. Absent n s x) f.1 h) e q v vs c (subst (λ x. Chain (Takes free) (presents s v ++ member_records (λ w. presents s w) vs) x c) g.1 t)
     stuck_from n s l os k b f h e q d g v vs c t = absurd f
 
-    pub stuck : (n : ℕ) (s : Schema) → IsLawful s → (a b : State) → Takes free a (further true) b → Absent n s b → (c d : State) → TooFewMembers n a c → Takes free c (further true) d → (v : Value) (vs : Values) (e : State) → Chain (Takes free) (presents s v ++ member_records (λ w. presents s w) vs) d e → ⊥
+    pub stuck : (n : ℕ) (s : Schema) → IsLawful s → (a b : State) → Takes free a (further true) b → Absent n s b → (c d : State) →
+        TooFewMembers n a c → Takes free c (further true) d → (v : Value) (vs : Values) (e : State) → Chain (Takes free) (presents s v ++ member_records (λ w. presents s w) vs) d e → ⊥
     stuck n s l a b t h c d f g v vs e q = stuck_from n s l a.0 a.1 b t h f.0 f.2 d (subst (λ x. Takes free x (further true) d) f.1 g) v vs e q
 
     pub bag_begun : (n : ℕ) (z : Size) (h : Counts) (m : ℕ) (a b c : State) → Takes free a (bag_begins z h m) b → TooFew n a c → (d : State) × Takes free c (bag_begins z h m) d × TooFewMembers n b d

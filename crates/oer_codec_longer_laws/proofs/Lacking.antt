@@ -33,7 +33,8 @@ module _ (free : Oer.Freedom → Bool) (other : IsTrue (free Oer.other_bitmap)) 
       let z = chain_split (Takes free) (presents s v) (member_records (λ w. presents s w) vs) q.0 c q.2 in
       let y : Chain (Takes free) (presents s v) (os, members j ∷ k) z.0 = subst (λ a. Chain (Takes free) (presents s v) a z.0) q.1.1 z.1 in
       let f = records_read free s v (os, members j ∷ k) z.0 other order y in
-      let r : Chain (Takes free) (member_records (λ w. presents s w) vs) (z.0.0, members j ∷ k) c = subst (λ a. Chain (Takes free) (member_records (λ w. presents s w) vs) a c) (state_same z.0 (z.0.0, members j ∷ k) refl f.1) z.2 in
+      let r : Chain (Takes free) (member_records (λ w. presents s w) vs) (z.0.0, members j ∷ k) c =
+      subst (λ a. Chain (Takes free) (member_records (λ w. presents s w) vs) a c) (state_same z.0 (z.0.0, members j ∷ k) refl f.1) z.2 in
       let i = members_take h j k z.0.0 vs c r in
       let t = h v (os, members j ∷ k) z.0 y in
       omega arith
@@ -44,11 +45,13 @@ lacking free s n j os k other order l w none e v vs c h q =
     let z = chain_split (Takes free) (presents s v) (member_records (λ w. presents s w) vs) (with_more e a) c q in
     let here : (u : Value) (d : State) → Chain (Takes free) (presents s u) a d → ⊥ = λ u d x. none [] u d (omega arith) (subst (λ b. Chain (Takes free) (presents s u) b d) (sym (more_none a)) x) in
     let f = records_read free s v (with_more e a) z.0 other order z.1 in
-    let r : Chain (Takes free) (member_records (λ w. presents s w) vs) (z.0.0, members j ∷ scopes_with e k) c = subst (λ b. Chain (Takes free) (member_records (λ w. presents s w) vs) b c) (state_same z.0 (z.0.0, members j ∷ scopes_with e k) refl f.1) z.2 in
+    let r : Chain (Takes free) (member_records (λ w. presents s w) vs) (z.0.0, members j ∷ scopes_with e k) c =
+    subst (λ b. Chain (Takes free) (member_records (λ w. presents s w) vs) b c) (state_same z.0 (z.0.0, members j ∷ scopes_with e k) refl f.1) z.2 in
     let i = members_take free other order s (some free s a other order l here) j (scopes_with e k) z.0.0 vs c r in
     let g : outermost z.0 ≡ z.0.0 = ap (λ m. octets_behind z.0.0 m) f.1 ∙ outside e k z.0.0 w in
     let g' : length (outermost z.0) ≡ length (z.0.0) = ap (λ (m : List ℕ). length m) g in
     let p = in_two n j e h in
-    let y : Chain (Takes free) (presents s v) (with_more p.1 (with_more p.0 a)) z.0 = subst (λ b. Chain (Takes free) (presents s v) b z.0) (sym (ap (λ m. with_more m a) p.2) ∙ more_twice p.0 p.1 a) z.1 in
+    let y : Chain (Takes free) (presents s v) (with_more p.1 (with_more p.0 a)) z.0 =
+    subst (λ b. Chain (Takes free) (presents s v) b z.0) (sym (ap (λ m. with_more m a) p.2) ∙ more_twice p.0 p.1 a) z.1 in
     let x = chain_back free p.1 (presents s v) (with_more p.0 a) z.0 y (omega arith) in
     none p.0 v x.0 p.3 x.2

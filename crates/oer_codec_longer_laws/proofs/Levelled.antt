@@ -55,7 +55,10 @@ module _ (free : Oer.Freedom → Bool) (other : IsTrue (free Oer.other_bitmap)) 
       let t = h v (os, members j ∷ k) z.0 (omega arith) y in
       omega arith
 
-  lacking_within : IsLawful s → (n j : ℕ) (os : List ℕ) (k : List Scope) → is_within k ≡ false → ((e : List ℕ) (v : Value) (c : State) → length e ≤ n → depth v ≤ deepest → Found v (with_more e (os, members j ∷ k)) c → ⊥) → (e : List ℕ) (v : Value) (vs : Values) (c : State) → length e ≤ n + j → depth v ≤ deepest → depth_of_members vs ≤ deepest → Chain (Takes free) (presents s v ++ member_records (λ w. presents s w) vs) (with_more e (os, members j ∷ k)) c → ⊥
+  lacking_within : IsLawful s → (n j : ℕ) (os : List ℕ) (k : List Scope) → is_within k ≡ false →
+      ((e : List ℕ) (v : Value) (c : State) → length e ≤ n → depth v ≤ deepest → Found v (with_more e (os, members j ∷ k)) c → ⊥) →
+      (e : List ℕ) (v : Value) (vs : Values) (c : State) → length e ≤ n + j → depth v ≤ deepest → depth_of_members vs ≤ deepest →
+      Chain (Takes free) (presents s v ++ member_records (λ w. presents s w) vs) (with_more e (os, members j ∷ k)) c → ⊥
   lacking_within l n j os k w none e v vs c h dv dvs q =
       let a : State = (os, members j ∷ k) in
       let z = chain_split (Takes free) (presents s v) (member_records (λ w. presents s w) vs) (with_more e a) c q in
@@ -77,7 +80,9 @@ module _ (free : Oer.Freedom → Bool) (other : IsTrue (free Oer.other_bitmap)) 
   fits : (v : Value) (a b : State) → Found v a b → Fits s v
   fits v a b t = Fitting.records_fit _ _ (λ x y m. m) s v a b t
 
-  stuck_at : IsLawful s → (n j : ℕ) (os : List ℕ) (k : List Scope) → Absent n (os, members j ∷ k) → (e : List ℕ) → (length e + due k ≤ n) ⊎ (e ≡ []) → (v : Value) (vs : Values) (c : State) → depth v ≤ deepest → depth_of_members vs ≤ deepest → Chain (Takes free) (presents s v ++ member_records (λ w. presents s w) vs) (with_more e (os, members j ∷ k)) c → ⊥
+  stuck_at : IsLawful s → (n j : ℕ) (os : List ℕ) (k : List Scope) → Absent n (os, members j ∷ k) → (e : List ℕ) → (length e + due k ≤ n) ⊎ (e ≡ []) →
+      (v : Value) (vs : Values) (c : State) → depth v ≤ deepest → depth_of_members vs ≤ deepest →
+      Chain (Takes free) (presents s v ++ member_records (λ w. presents s w) vs) (with_more e (os, members j ∷ k)) c → ⊥
   stuck_at l n j os k h e (inr q) v vs c dv dvs t =
       let a : State = (os, members j ∷ k) in
       let z = chain_split (Takes free) (presents s v) (member_records (λ w. presents s w) vs) (with_more e a) c t in
@@ -102,12 +107,17 @@ module _ (free : Oer.Freedom → Bool) (other : IsTrue (free Oer.other_bitmap)) 
         | inr i ↦ lacking_within l (n - (j + due k)) j os k w (here (n - (j + due k)) (inl (omega arith)) w) e v vs c (omega arith) dv dvs t
       ]
 
-  stuck_from : IsLawful s → (n : ℕ) (os : List ℕ) (k : List Scope) (b : State) → NextMember true os k b → Absent n b → (e : List ℕ) → (length e + due (around k) ≤ n) ⊎ (e ≡ []) → (d : State) → NextMember true (octets_with e k os) (scopes_with e k) d → (v : Value) (vs : Values) (c : State) → depth v ≤ deepest → depth_of_members vs ≤ deepest → Chain (Takes free) (presents s v ++ member_records (λ w. presents s w) vs) d c → ⊥
+  stuck_from : IsLawful s → (n : ℕ) (os : List ℕ) (k : List Scope) (b : State) → NextMember true os k b → Absent n b → (e : List ℕ) →
+      (length e + due (around k) ≤ n) ⊎ (e ≡ []) → (d : State) → NextMember true (octets_with e k os) (scopes_with e k) d →
+      (v : Value) (vs : Values) (c : State) → depth v ≤ deepest → depth_of_members vs ≤ deepest → Chain (Takes free) (presents s v ++ member_records (λ w. presents s w) vs) d c → ⊥
   stuck_from l n os (members zero ∷ k) b f h e q d g v vs c dv dvs t = let e : true ≡ false = f.0 in cc
   stuck_from l n os (members (suc j) ∷ k) b f h e q d g v vs c dv dvs t =
       stuck_at l n j os k (subst (λ x. Absent n x) f.1 h) e q v vs c dv dvs (subst (λ x. Chain (Takes free) (presents s v ++ member_records (λ w. presents s w) vs) x c) g.1 t)
   stuck_from l n os k b f h e q d g v vs c dv dvs t = absurd f
 
-pub stuck_within : (free : Oer.Freedom → Bool) (other : IsTrue (free Oer.other_bitmap)) (order : IsTrue (free Oer.other_order)) (s : Schema) (deepest : ℕ) → IsLawful s → (n : ℕ) (a b : State) → Takes free a (further true) b → Absent free other order s deepest n b → (c d : State) → TooFewMembers n a c → Takes free c (further true) d → (v : Value) (vs : Values) (e : State) → depth v ≤ deepest → depth_of_members vs ≤ deepest → Chain (Takes free) (presents s v ++ member_records (λ w. presents s w) vs) d e → ⊥
+pub stuck_within : (free : Oer.Freedom → Bool) (other : IsTrue (free Oer.other_bitmap)) (order : IsTrue (free Oer.other_order)) (s : Schema)
+    (deepest : ℕ) → IsLawful s → (n : ℕ) (a b : State) → Takes free a (further true) b → Absent free other order s deepest n b → (c d : State) →
+    TooFewMembers n a c → Takes free c (further true) d → (v : Value) (vs : Values) (e : State) → depth v ≤ deepest → depth_of_members vs ≤ deepest →
+    Chain (Takes free) (presents s v ++ member_records (λ w. presents s w) vs) d e → ⊥
 stuck_within free other order s deepest l n a b t h c d f g v vs e dv dvs q =
     stuck_from free other order s deepest l n a.0 a.1 b t h f.0 f.2 d (subst (λ x. Takes free x (further true) d) f.1 g) v vs e dv dvs q

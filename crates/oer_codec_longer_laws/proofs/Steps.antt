@@ -5,8 +5,13 @@ use Rattle.asn1_model.specs.Schema.{Tag, Counts, boolean, null, integer, enumera
 use Rattle.asn1_model.specs.Form.{joined, present_ones}
 use Rattle.asn1_model.specs.Oer
 use Rattle.asn1_schema_reading_laws.specs.PresenceBits.{preamble_bits, first_bits}
-use Rattle.asn1_schema_laws.specs.Records.{Record, flag, nil, whole, one_of, bits, octets, characters, identifier, list_begins, bag_begins, further, sequence_begins, set_begins, group_begins, presence_bit, is_default, is_empty, additions_begin, addition, addition_ends, choice_begins, ends, mismatch}
-use Rattle.oer_codec_laws.specs.Takes.{State, Scope, components, added, open_type, members, alternative, Front, Found, Counted, NextMember, Begins, NextPresenceBit, AdditionsBegin, Opens, Closes, NextAddition, AdditionEnds, unknown_forms, Enters, Chooses, Ends, Takes}
+use Rattle.asn1_schema_laws.specs.Records.{Record, flag, nil, whole, one_of, bits, octets, characters, identifier}
+use Rattle.asn1_schema_laws.specs.Records.{list_begins, bag_begins, further, sequence_begins, set_begins, group_begins}
+use Rattle.asn1_schema_laws.specs.Records.{presence_bit, is_default, is_empty, additions_begin, addition, addition_ends}
+use Rattle.asn1_schema_laws.specs.Records.{choice_begins, ends, mismatch}
+use Rattle.oer_codec_laws.specs.Takes.{State, Scope, components, added, open_type, members, alternative, Front, Found}
+use Rattle.oer_codec_laws.specs.Takes.{ListBegins, NextMember, Begins, NextPresenceBit, AdditionsBegin, Opens, Closes}
+use Rattle.oer_codec_laws.specs.Takes.{NextAddition, AdditionEnds, unknown_forms, Enters, Chooses, Ends, Takes}
 use Rattle.oer_codec_laws.proofs.Next.{state_same}
 use Rattle.oer_codec_longer_laws.specs.More.{octets_with, scopes_with, with_more, octets_behind, outermost}
 use Rattle.oer_codec_longer_laws.proofs.Behind.{front_less, front_more, front_back}
@@ -29,7 +34,7 @@ module _ (free : Oer.Freedom → Bool) where
   found_less : (x : Oer.OctetForm) (a b : State) → Found free x a b → less (outermost b) (outermost a)
   found_less x a b f = pushed_less x a.0 a.1 a.1 b f.0 f.1 refl
 
-  count_less : (h : Counts) (n : ℕ) (a b : State) → Counted free h n a b → less (outermost b) (outermost a)
+  count_less : (h : Counts) (n : ℕ) (a b : State) → ListBegins free h n a b → less (outermost b) (outermost a)
   count_less h n a b f = pushed_less (Oer.unsigned f.0) a.0 a.1 (members f.0 ∷ a.1) b f.3 f.4 refl
 
   begin_less : (e : Bool) (n : ℕ) (a b : State) → Begins free e n a b → less (outermost b) (outermost a)
@@ -109,7 +114,8 @@ module _ (free : Oer.Freedom → Bool) where
 
   module _ (e : List ℕ) where
     -- after a prefix, in scopes without another open type
-    pushed_more : (x : Oer.OctetForm) (os : List ℕ) (k l : List Scope) (b : State) → Front free x os b.0 → b.1 ≡ l → octets_with e l b.0 ≡ octets_with e k b.0 → Front free x (octets_with e k os) (octets_with e b.1 b.0)
+    pushed_more : (x : Oer.OctetForm) (os : List ℕ) (k l : List Scope) (b : State) → Front free x os b.0 → b.1 ≡ l →
+        octets_with e l b.0 ≡ octets_with e k b.0 → Front free x (octets_with e k os) (octets_with e b.1 b.0)
     pushed_more x os k l b f q r = subst (λ i. Front free x (octets_with e k os) i) (sym (ap (λ m. octets_with e m b.0) q ∙ r)) (front_more free e x k os b.0 f)
 
     scopes_more : (b : State) (l : List Scope) → b.1 ≡ l → scopes_with e b.1 ≡ scopes_with e l
@@ -121,7 +127,7 @@ module _ (free : Oer.Freedom → Bool) where
     found_more : (x : Oer.OctetForm) (a b : State) → Found free x a b → Found free x (with_more e a) (with_more e b)
     found_more x a b f = (pushed_more x a.0 a.1 a.1 b f.0 f.1 refl, scopes_more b a.1 f.1)
 
-    count_more : (h : Counts) (n : ℕ) (a b : State) → Counted free h n a b → Counted free h n (with_more e a) (with_more e b)
+    count_more : (h : Counts) (n : ℕ) (a b : State) → ListBegins free h n a b → ListBegins free h n (with_more e a) (with_more e b)
     count_more h n a b f = (f.0, f.1, f.2, pushed_more (Oer.unsigned f.0) a.0 a.1 (members f.0 ∷ a.1) b f.3 f.4 refl, scopes_more b (members f.0 ∷ a.1) f.4)
 
     begin_more : (x : Bool) (n : ℕ) (a b : State) → Begins free x n a b → Begins free x n (with_more e a) (with_more e b)
@@ -144,7 +150,8 @@ module _ (free : Oer.Freedom → Bool) where
 
     open_more : (os : List ℕ) (k : List Scope) (b : State) → Opens free os k b → Opens free (octets_with e k os) (scopes_with e k) (with_more e b)
     open_more os k b f =
-        let g : Front free (Oer.counted (octets_with e b.1 b.0)) (octets_with e k os) (octets_with e k f.0) = subst (λ l. Front free (Oer.counted (octets_with e l b.0)) (octets_with e k os) (octets_with e k f.0)) (sym f.2) (front_more free e (Oer.counted b.0) k os f.0 f.1) in
+        let g : Front free (Oer.counted (octets_with e b.1 b.0)) (octets_with e k os) (octets_with e k f.0) =
+        subst (λ l. Front free (Oer.counted (octets_with e l b.0)) (octets_with e k os) (octets_with e k f.0)) (sym f.2) (front_more free e (Oer.counted b.0) k os f.0 f.1) in
         (octets_with e k f.0, g, scopes_more b (open_type f.0 ∷ k) f.2)
 
     close_more : (os rest : List ℕ) (k : List Scope) (b : State) → Closes free os rest k b → Closes free os (octets_with e k rest) (scopes_with e k) (with_more e b)
@@ -163,7 +170,8 @@ module _ (free : Oer.Freedom → Bool) where
     entry_more false os k b f = state_more b (os, alternative ∷ k) f
     entry_more true os k b f = open_more os k b f
 
-    choice_more : (roots : List Tag) (x : Bool) (others : List Tag) (v : Bool) (i : ℕ) (a b : State) → Chooses free roots x others v i a b → Chooses free roots x others v i (with_more e a) (with_more e b)
+    choice_more : (roots : List Tag) (x : Bool) (others : List Tag) (v : Bool) (i : ℕ) (a b : State) → Chooses free roots x others v i a b →
+        Chooses free roots x others v i (with_more e a) (with_more e b)
     choice_more roots x others v i a b f = (f.0, octets_with e a.1 f.1, f.2, front_more free e (Oer.tag_form f.0) a.1 a.0 f.1 f.3, entry_more v f.1 a.1 b f.4)
 
     end_more : (os : List ℕ) (k : List Scope) (b : State) → Ends free os k b → Ends free (octets_with e k os) (scopes_with e k) (with_more e b)
@@ -204,7 +212,9 @@ module _ (free : Oer.Freedom → Bool) where
     Back c p = (b : State) × (c ≡ with_more e b) × p b
 
     -- after a prefix, in scopes without another open type
-    pushed_back : (x : Oer.OctetForm) (os : List ℕ) (k l : List Scope) (c : State) → Front free x (octets_with e k os) c.0 → c.1 ≡ scopes_with e l → octets_behind c.0 (scopes_with e l) ≡ octets_behind c.0 (scopes_with e k) → ((r : List ℕ) → octets_with e k r ≡ octets_with e l r) → less e (outermost c) → Back c (λ b. Front free x os b.0 × (b.1 ≡ l))
+    pushed_back : (x : Oer.OctetForm) (os : List ℕ) (k l : List Scope) (c : State) → Front free x (octets_with e k os) c.0 → c.1 ≡ scopes_with e l →
+        octets_behind c.0 (scopes_with e l) ≡ octets_behind c.0 (scopes_with e k) → ((r : List ℕ) → octets_with e k r ≡ octets_with e l r) →
+        less e (outermost c) → Back c (λ b. Front free x os b.0 × (b.1 ≡ l))
     pushed_back x os k l c f q r s h =
         let z = front_back free e x k os c.0 f (subst (λ i. less e i) (ap (λ m. octets_behind c.0 m) q ∙ r) h) in
         ((z.0, l), state_same c (with_more e (z.0, l)) (z.1 ∙ s z.0) q, (z.2, refl))
@@ -212,7 +222,7 @@ module _ (free : Oer.Freedom → Bool) where
     found_back : (x : Oer.OctetForm) (a c : State) → Found free x (with_more e a) c → less e (outermost c) → Back c (λ b. Found free x a b)
     found_back x a c f h = pushed_back x a.0 a.1 a.1 c f.0 f.1 refl (λ r. refl) h
 
-    count_back : (i : Counts) (n : ℕ) (a c : State) → Counted free i n (with_more e a) c → less e (outermost c) → Back c (λ b. Counted free i n a b)
+    count_back : (i : Counts) (n : ℕ) (a c : State) → ListBegins free i n (with_more e a) c → less e (outermost c) → Back c (λ b. ListBegins free i n a b)
     count_back i n a c f h =
         let z = pushed_back (Oer.unsigned f.0) a.0 a.1 (members f.0 ∷ a.1) c f.3 f.4 refl (λ r. refl) h in
         (z.0, z.1, (f.0, f.1, f.2, z.2.0, z.2.1))
@@ -231,7 +241,8 @@ module _ (free : Oer.Freedom → Bool) where
     presence_bit_back v os (components x (m ∷ ms) ∷ k) c f = ((os, components x ms ∷ k), f.1, (f.0, refl))
     presence_bit_back v os k c f = absurd f
 
-    additions_back : (n : ℕ) (os : List ℕ) (k : List Scope) (c : State) → AdditionsBegin free n (octets_with e k os) (scopes_with e k) c → less e (outermost c) → Back c (λ b. AdditionsBegin free n os k b)
+    additions_back : (n : ℕ) (os : List ℕ) (k : List Scope) (c : State) → AdditionsBegin free n (octets_with e k os) (scopes_with e k) c →
+        less e (outermost c) → Back c (λ b. AdditionsBegin free n os k b)
     additions_back n os (components (Some false) [] ∷ k) c f h = ((os, added (first_bits n []) [] ∷ k), f, refl)
     additions_back n os (components (Some true) [] ∷ k) c f h =
         let z = pushed_back (Oer.counted_bits f.0) os k (added (first_bits n f.0) (drop n f.0) ∷ k) c f.2 f.3 refl (λ r. refl) h in
@@ -246,7 +257,8 @@ module _ (free : Oer.Freedom → Bool) where
     close_back : (os rest : List ℕ) (k : List Scope) (c : State) → Closes free os (octets_with e k rest) (scopes_with e k) c → Back c (λ b. Closes free os rest k b)
     close_back os rest k c f = ((rest, k), f.1, (f.0, refl))
 
-    addition_back : (v : Bool) (os : List ℕ) (k : List Scope) (c : State) → NextAddition free v (octets_with e k os) (scopes_with e k) c → less e (outermost c) → Back c (λ b. NextAddition free v os k b)
+    addition_back : (v : Bool) (os : List ℕ) (k : List Scope) (c : State) → NextAddition free v (octets_with e k os) (scopes_with e k) c →
+        less e (outermost c) → Back c (λ b. NextAddition free v os k b)
     addition_back v os (added (false ∷ ms) us ∷ k) c f h = ((os, added ms us ∷ k), f.1, (f.0, refl))
     addition_back v os (added (true ∷ ms) us ∷ k) c f h = let z = open_back os (added ms us ∷ k) c f.1 h in (z.0, z.1, (f.0, z.2))
     addition_back v os k c f h = absurd f
@@ -259,7 +271,8 @@ module _ (free : Oer.Freedom → Bool) where
     entry_back false os k c f h = ((os, alternative ∷ k), f, refl)
     entry_back true os k c f h = open_back os k c f h
 
-    choice_back : (roots : List Tag) (x : Bool) (others : List Tag) (v : Bool) (i : ℕ) (a c : State) → Chooses free roots x others v i (with_more e a) c → less e (outermost c) → Back c (λ b. Chooses free roots x others v i a b)
+    choice_back : (roots : List Tag) (x : Bool) (others : List Tag) (v : Bool) (i : ℕ) (a c : State) →
+        Chooses free roots x others v i (with_more e a) c → less e (outermost c) → Back c (λ b. Chooses free roots x others v i a b)
     choice_back roots x others v i a c f h =
         let l = entry_less v f.1 (scopes_with e a.1) c f.4 in
         let z = front_back free e (Oer.tag_form f.0) a.1 a.0 f.1 f.3 (omega arith) in

@@ -1,5 +1,7 @@
 -- Octets that begin with bits.
-use Rattle.std.proofs.Common.{◌≡◌, ℕ, zero, suc, ◌+◌, ◌*◌, ◌/◌, ◌^◌, ◌≤◌, ◌<◌, ◌==◌, Bool, true, false, cond, ◌⊎◌, inl, inr, List, [], ◌∷◌, ◌++◌, length, take, drop, map, replicate, refl, sym, ap, ◌∙◌, arith, append_assoc, length-append, length-drop, get_or}
+use Rattle.std.proofs.Common.{◌≡◌, ℕ, zero, suc, ◌+◌, ◌*◌, ◌/◌, ◌^◌, ◌≤◌, ◌<◌, ◌==◌, Bool, true, false, cond, ◌⊎◌, inl}
+use Rattle.std.proofs.Common.{inr, List, [], ◌∷◌, ◌++◌, length, take, drop, map, replicate, refl, sym, ap, ◌∙◌, arith}
+use Rattle.std.proofs.Common.{append_assoc, length-append, length-drop, get_or}
 use Rattle.std.proofs.lemmas.List.{append-nil, take-append-drop, length-take-le, take_all}
 use Rattle.std.proofs.Math.Nat.{mod-eq_of_lt}
 use Rattle.std.proofs.lemmas.Bool.{false≢true, eqb-true, eq-eqb}
@@ -66,15 +68,20 @@ packed_length bs unused e =
     sym (length-octet_bits (packed (bs ++ unused))) ∙ ap length b ∙ length-append bs unused ∙ ap (λ m. length bs + m) e
 
 -- Bits that come first are those of the octets that were taken.
-pub front_with_unused : (bs unused : List Bool) (os w new rest : List ℕ) → length unused ≡ missing (length bs) → packed (bs ++ unused) ++ rest ≡ w → os ++ new ≡ w → length os * 8 ≡ length bs + missing (length bs)
+pub front_with_unused : (bs unused : List Bool) (os w new rest : List ℕ) → length unused ≡ missing (length bs) → packed (bs ++ unused) ++ rest ≡ w →
+    os ++ new ≡ w → length os * 8 ≡ length bs + missing (length bs)
     → (take (length bs) (octet_bits os) ≡ bs) × (drop (length bs) (octet_bits os) ≡ unused) × (rest ≡ new)
 front_with_unused bs unused os w new rest e h i l =
     let p = packed_length bs unused e in
     let f = fronts_equal (packed (bs ++ unused)) os rest new (omega (arith, p, l)) (h ∙ sym i) in
     let b : octet_bits os ≡ bs ++ unused = ap octet_bits (sym f.0) ∙ packed_back ((length bs + 7) / 8) (bs ++ unused) (length_with_unused bs unused e) in
     let t : take (length bs) (octet_bits os) ++ drop (length bs) (octet_bits os) ≡ bs ++ unused = take-append-drop (length bs) (octet_bits os) ∙ b in
-    let d : length (drop (length bs) (octet_bits os)) ≡ length unused = (let x = length-drop (length bs) (octet_bits os) in let y = length-octet_bits os in omega (arith, x, y, l, e)) in
-    (same_fronts (take (length bs) (octet_bits os)) (drop (length bs) (octet_bits os)) bs unused d t, same_backs (take (length bs) (octet_bits os)) (drop (length bs) (octet_bits os)) bs unused d t, f.1)
+    let d : length (drop (length bs) (octet_bits os)) ≡ length unused = (let x = length-drop (length bs) (octet_bits os) in let y = length-octet_bits os in omega (arith, x, y, l, e)) in (
+      same_fronts (take (length bs) (octet_bits os)) (drop (length bs) (octet_bits os)) bs unused d t,
+      same_backs (take (length bs) (octet_bits os))
+          (drop (length bs) (octet_bits os)) bs unused d t,
+      f.1,
+    )
 
 taken_length : (n : ℕ) (os : List ℕ) → length os * 8 ≡ n + missing n → length (take n (octet_bits os)) ≡ n
 taken_length n os l = let y = length-octet_bits os in length-take-le n (octet_bits os) (omega (arith, y, l))
@@ -87,7 +94,8 @@ taken_text n os w new a e = ap (λ b. packed b ++ new) (take-append-drop n (octe
 
 -- ---- the unused bits
 
-pub zero_unused_bits : (n m x : ℕ) (os : List ℕ) → length os * 8 ≡ n + missing n → m ≡ missing n → binary m x ≡ take m (drop n (octet_bits os)) → x < 2 ^ m → ((x == 0) ≡ true → drop n (octet_bits os) ≡ replicate (missing n) false) × (drop n (octet_bits os) ≡ replicate (missing n) false → (x == 0) ≡ true)
+pub zero_unused_bits : (n m x : ℕ) (os : List ℕ) → length os * 8 ≡ n + missing n → m ≡ missing n → binary m x ≡ take m (drop n (octet_bits os)) →
+    x < 2 ^ m → ((x == 0) ≡ true → drop n (octet_bits os) ≡ replicate (missing n) false) × (drop n (octet_bits os) ≡ replicate (missing n) false → (x == 0) ≡ true)
 zero_unused_bits n m x os l e b h =
     let d = dropped_length n os l in
     let t : binary m x ≡ drop n (octet_bits os) = b ∙ take_all m (drop n (octet_bits os)) (omega (arith, d)) in (
@@ -98,7 +106,8 @@ zero_unused_bits n m x os l e b h =
 -- ---- bits of a string
 
 module _ (r : EncodingRules) where
-  pub bits_read : (n : ℕ) (os w new : List ℕ) (bs : List Bool) → length os * 8 ≡ n + missing n → AreOctets os → os ++ new ≡ w → (is_basic r ≡ true) ⊎ (drop n (octet_bits os) ≡ replicate (missing n) false) → bs ≡ take n (octet_bits os) → Stands (freedoms r) (bits_in n bs) w new
+  pub bits_read : (n : ℕ) (os w new : List ℕ) (bs : List Bool) → length os * 8 ≡ n + missing n → AreOctets os → os ++ new ≡ w →
+      (is_basic r ≡ true) ⊎ (drop n (octet_bits os) ≡ replicate (missing n) false) → bs ≡ take n (octet_bits os) → Stands (freedoms r) (bits_in n bs) w new
   unfolding bits_form
   bits_read n os w new bs l a e z b =
       let m : length bs ≡ n = ap length b ∙ taken_length n os l in
@@ -122,8 +131,16 @@ module _ (r : EncodingRules) where
   bits_front n bs w rest h =
       let i = if_front (freedoms r) (length bs == n) (bits_form bs) w rest h in
       let v = varied_front (freedoms r) any_unused_bits (replicate (missing (length bs)) false) (λ f. only_if (length f == missing (length bs)) (exactly (packed (bs ++ f)))) w rest i.1 in
-      let j = if_front (freedoms r) (length v.0 == missing (length bs)) (exactly (packed (bs ++ v.0))) w rest v.2 in
-      (eqb-true _ _ i.0, record { unused = v.0; count = eqb-true _ _ j.0; text = exactly_front (freedoms r) (packed (bs ++ v.0)) w rest j.1; zeros = elim v.1 [ inl e ↦ inl e | inr t ↦ inr (sym (any_unused_bits_is_basic r) ∙ t) ] })
+      let j = if_front (freedoms r) (length v.0 == missing (length bs)) (exactly (packed (bs ++ v.0))) w rest v.2 in (
+        eqb-true _ _ i.0,
+        record {
+          unused = v.0;
+          count = eqb-true _ _ j.0;
+          text = exactly_front (freedoms r) (packed (bs ++ v.0)) w rest j.1;
+          zeros =
+              elim v.1 [ inl e ↦ inl e | inr t ↦ inr (sym (any_unused_bits_is_basic r) ∙ t) ];
+        },
+      )
 
   pub short_bits : (n m : ℕ) (w : List ℕ) → m * 8 ≡ n + missing n → length w < m → NoneStands (freedoms r) (bits_in n) w
   short_bits n m w e l bs rest h =
@@ -134,7 +151,8 @@ module _ (r : EncodingRules) where
       let s : length bs + missing (length bs) ≡ n + missing n = ap (λ k. k + missing k) f.0 in
       absurd (omega (arith, p, q, u, s, e, l))
 
-  pub no_bits_with_unused : (n : ℕ) (os w new : List ℕ) → length os * 8 ≡ n + missing n → os ++ new ≡ w → (is_basic r ≡ false) × (drop n (octet_bits os) ≡ replicate (missing n) false → ⊥) → NoneStands (freedoms r) (bits_in n) w
+  pub no_bits_with_unused : (n : ℕ) (os w new : List ℕ) → length os * 8 ≡ n + missing n → os ++ new ≡ w → (is_basic r ≡ false) ×
+      (drop n (octet_bits os) ≡ replicate (missing n) false → ⊥) → NoneStands (freedoms r) (bits_in n) w
   no_bits_with_unused n os w new l e z bs rest h =
       let f = bits_front n bs w rest h in
       let g = front_with_unused bs f.1.unused os w new rest f.1.count f.1.text e (l ∙ ap (λ k. k + missing k) (sym f.0)) in

@@ -1,5 +1,7 @@
 -- Octets that begin with bits of any number.
-use Rattle.std.proofs.Common.{◌≡◌, ℕ, ◌+◌, ◌/◌, ◌<◌, ◌==◌, Bool, true, false, cond, IsTrue, ◌⊎◌, inl, inr, Option, Some, None, List, [], ◌∷◌, ◌++◌, length, refl, sym, ap, ◌∙◌, subst, arith, append_assoc, Result, Ok, Err, IfErr, IfOk}
+use Rattle.std.proofs.Common.{◌≡◌, ℕ, ◌+◌, ◌/◌, ◌<◌, ◌==◌, Bool, true, false, cond, IsTrue, ◌⊎◌, inl, inr, Option, Some}
+use Rattle.std.proofs.Common.{None, List, [], ◌∷◌, ◌++◌, length, refl, sym, ap, ◌∙◌, subst, arith, append_assoc, Result}
+use Rattle.std.proofs.Common.{Ok, Err, IfErr, IfOk}
 use Rattle.std.proofs.lemmas.Bool.{false≢true, eqb-true, eq-eqb}
 use Rattle.asn1_model.specs.Schema.{Size, Counts, bit_string}
 use Rattle.asn1_model.specs.Value.{Value, bit_list}
@@ -50,7 +52,8 @@ counted_front free bs w rest h =
     let t : u.0 ++ (missing (length bs) ∷ (v.1 ++ rest)) ≡ w = ap (λ c. u.0 ++ (c ++ rest)) (sym b) ∙ sym (append_assoc u.0 u.1 rest) ∙ ap (λ c. c ++ rest) u.4 ∙ h.1 in
     record { behind = v.1 ++ rest; counts = (u.0, t, u.2); bits = (v.1, refl, still free bs v.1 _ 0 v.3) }
 
-counted_stands : (free : Freedom → Bool) (bs : List Bool) (w mid rest : List ℕ) → Stands free (length_form (octets_of (length bs))) w (missing (length bs) ∷ mid) → Stands free (bits_form bs) mid rest → Stands free (counted_bits bs) w rest
+counted_stands : (free : Freedom → Bool) (bs : List Bool) (w mid rest : List ℕ) →
+    Stands free (length_form (octets_of (length bs))) w (missing (length bs) ∷ mid) → Stands free (bits_form bs) mid rest → Stands free (counted_bits bs) w rest
 unfolding Reads counted_bits
 counted_stands free bs w mid rest l b =
     let m = missing (length bs) in
@@ -65,11 +68,13 @@ module _ (r : EncodingRules) where
   abbrev maybe_empty : List Bool → Bool → OctetForm
   maybe_empty bs e = cond e (only_if (length bs == 0) (length_form 0)) (counted_bits bs)
 
-  varying_front : (bs : List Bool) (w rest : List ℕ) → Stands (freedoms r) (bit_string_form false bs) w rest → ((is_basic r ≡ true) × Stands (freedoms r) (length_form 0) w rest × (bs ≡ [])) ⊎ Counted (freedoms r) bs w rest
+  varying_front : (bs : List Bool) (w rest : List ℕ) → Stands (freedoms r) (bit_string_form false bs) w rest →
+      ((is_basic r ≡ true) × Stands (freedoms r) (length_form 0) w rest × (bs ≡ [])) ⊎ Counted (freedoms r) bs w rest
   unfolding bit_string_form
   varying_front bs w rest h = let v = varied_front (freedoms r) empty_bit_string false (maybe_empty bs) w rest h in go v.0 v.1 v.2
     where
-      go : (e : Bool) → (e ≡ false) ⊎ IsTrue (freedoms r empty_bit_string) → Stands (freedoms r) (maybe_empty bs e) w rest → ((is_basic r ≡ true) × Stands (freedoms r) (length_form 0) w rest × (bs ≡ [])) ⊎ Counted (freedoms r) bs w rest
+      go : (e : Bool) → (e ≡ false) ⊎ IsTrue (freedoms r empty_bit_string) → Stands (freedoms r) (maybe_empty bs e) w rest →
+          ((is_basic r ≡ true) × Stands (freedoms r) (length_form 0) w rest × (bs ≡ [])) ⊎ Counted (freedoms r) bs w rest
       go true (inl e) s = cc
       go true (inr t) s = let i = if_front (freedoms r) (length bs == 0) (length_form 0) w rest s in inl (sym (empty_bit_string_is_basic r) ∙ t, i.1, empty_bits bs (eqb-true _ _ i.0))
       go false a s = inr (counted_front (freedoms r) bs w rest s)
@@ -80,7 +85,8 @@ module _ (r : EncodingRules) where
       varied_stands (freedoms r) empty_bit_string false true (maybe_empty bs) w mid (inr (empty_bit_string_is_basic r ∙ b))
       (if_stands (freedoms r) (length bs == 0) (length_form 0) w mid (eq-eqb _ _ (ap length e)) (subst (λ k. Stands (freedoms r) (length_form k) w mid) z h))
 
-  pub some_bits : (w mid rest : List ℕ) (n u : ℕ) (bs : List Bool) (k : ℕ) → Stands (freedoms r) (length_form n) w (u ∷ mid) → octets_of k ≡ n → missing k ≡ u → Stands (freedoms r) (bits_in k bs) mid rest → Stands (freedoms r) (bit_string_form false bs) w rest
+  pub some_bits : (w mid rest : List ℕ) (n u : ℕ) (bs : List Bool) (k : ℕ) → Stands (freedoms r) (length_form n) w (u ∷ mid) → octets_of k ≡ n →
+      missing k ≡ u → Stands (freedoms r) (bits_in k bs) mid rest → Stands (freedoms r) (bit_string_form false bs) w rest
   unfolding bit_string_form
   some_bits w mid rest n u bs k h e f s =
       let i = if_front (freedoms r) (length bs == k) (bits_form bs) mid rest s in
@@ -88,7 +94,8 @@ module _ (r : EncodingRules) where
       let a : n ≡ octets_of (length bs) = sym e ∙ ap octets_of (sym l) in
       let b : u ≡ missing (length bs) = sym f ∙ ap missing (sym l) in
       varied_stands (freedoms r) empty_bit_string false false (maybe_empty bs) w rest (inl refl)
-      (counted_stands (freedoms r) bs w mid rest (subst (λ x. Stands (freedoms r) (length_form x) w (missing (length bs) ∷ mid)) a (subst (λ x. Stands (freedoms r) (length_form n) w (x ∷ mid)) b h)) i.1)
+      (counted_stands (freedoms r) bs w mid rest (subst (λ x. Stands (freedoms r) (length_form x) w (missing (length bs) ∷ mid)) a
+      (subst (λ x. Stands (freedoms r) (length_form n) w (x ∷ mid)) b h)) i.1)
 
   -- ---- what read_varying refuses
 
@@ -102,19 +109,24 @@ module _ (r : EncodingRules) where
   ]
 
   -- if the length is not zero
-  counted_only : (w mid : List ℕ) (n : ℕ) → (n ≡ 0 → ⊥) → Stands (freedoms r) (length_form n) w mid → ((bs : List Bool) (behind rest : List ℕ) → n ≡ octets_of (length bs) → mid ≡ missing (length bs) ∷ behind → Stands (freedoms r) (bits_form bs) behind rest → ⊥) → NoneStands (freedoms r) (bit_string_form false) w
+  counted_only : (w mid : List ℕ) (n : ℕ) → (n ≡ 0 → ⊥) → Stands (freedoms r) (length_form n) w mid →
+      ((bs : List Bool) (behind rest : List ℕ) → n ≡ octets_of (length bs) → mid ≡ missing (length bs) ∷ behind →
+      Stands (freedoms r) (bits_form bs) behind rest → ⊥) → NoneStands (freedoms r) (bit_string_form false) w
   counted_only w mid n z h f bs rest s = elim (varying_front bs w rest s) [
     | inl a ↦ z (length_one (freedoms r) n 0 w mid rest h a.1).0
     | inr c ↦ let o = length_one (freedoms r) n (octets_of (length bs)) w mid (missing (length bs) ∷ c.behind) h c.counts in f bs c.behind rest o.0 o.1 c.bits
   ]
 
   pub few_octets : (w mid : List ℕ) (n : ℕ) → (n ≡ 0 → ⊥) → length mid < n → Stands (freedoms r) (length_form n) w mid → NoneStands (freedoms r) (bit_string_form false) w
-  few_octets w mid n z l h = counted_only w mid n z h (λ bs behind rest e f s. let b = bits_long r bs behind rest s in let g : length mid ≡ length (missing (length bs) ∷ behind) = ap length f in absurd (omega (arith, e, g, l, b)))
+  few_octets w mid n z l h = counted_only w mid n z h (λ bs behind rest e f s. let b = bits_long r bs behind rest s in
+      let g : length mid ≡ length (missing (length bs) ∷ behind) = ap length f in absurd (omega (arith, e, g, l, b)))
 
-  pub wrong_unused : (w mid new : List ℕ) (n u : ℕ) → (n ≡ 0 → ⊥) → mid ≡ u ∷ new → ((k : ℕ) → (k + 7) / 8 + 1 ≡ n → missing k ≡ u → ⊥) → Stands (freedoms r) (length_form n) w mid → NoneStands (freedoms r) (bit_string_form false) w
+  pub wrong_unused : (w mid new : List ℕ) (n u : ℕ) → (n ≡ 0 → ⊥) → mid ≡ u ∷ new → ((k : ℕ) → (k + 7) / 8 + 1 ≡ n → missing k ≡ u → ⊥) →
+      Stands (freedoms r) (length_form n) w mid → NoneStands (freedoms r) (bit_string_form false) w
   wrong_unused w mid new n u z e f h = counted_only w mid n z h (λ bs behind rest g i s. f (length bs) (sym g) (let x : missing (length bs) ∷ behind ≡ u ∷ new = sym i ∙ e in cc))
 
-  pub wrong_bits : (w mid new : List ℕ) (n u k : ℕ) → (n ≡ 0 → ⊥) → mid ≡ u ∷ new → (k + 7) / 8 + 1 ≡ n → missing k ≡ u → Stands (freedoms r) (length_form n) w mid → NoneStands (freedoms r) (bits_in k) new → NoneStands (freedoms r) (bit_string_form false) w
+  pub wrong_bits : (w mid new : List ℕ) (n u k : ℕ) → (n ≡ 0 → ⊥) → mid ≡ u ∷ new → (k + 7) / 8 + 1 ≡ n → missing k ≡ u →
+      Stands (freedoms r) (length_form n) w mid → NoneStands (freedoms r) (bits_in k) new → NoneStands (freedoms r) (bit_string_form false) w
   wrong_bits w mid new n u k z e f g h none = counted_only w mid n z h (λ bs behind rest i j s.
       let x : missing (length bs) ∷ behind ≡ u ∷ new = sym j ∙ e in
       let y : missing (length bs) ≡ u = cc in
@@ -122,11 +134,14 @@ module _ (r : EncodingRules) where
       let c : length bs ≡ k = same_count (length bs) k (sym i ∙ sym f) (y ∙ sym g) in
       none bs rest (if_stands (freedoms r) (length bs == k) (bits_form bs) new rest (eq-eqb _ _ c) (subst (λ v. Stands (freedoms r) (bits_form bs) v rest) b s)))
 
-  pub varying_read : {X : Type 0} (e : Result X DecodeError) (bits : X → List Bool) (w mid new rest : List ℕ) (n u k : ℕ) → mid ≡ u ∷ new → (k + 7) / 8 + 1 ≡ n → missing k ≡ u → Stands (freedoms r) (length_form n) w mid → IfOk e (λ x. Stands (freedoms r) (bits_in k (bits x)) new rest) → IfOk e (λ x. Stands (freedoms r) (bit_string_form false (bits x)) w rest)
+  pub varying_read : {X : Type 0} (e : Result X DecodeError) (bits : X → List Bool) (w mid new rest : List ℕ) (n u k : ℕ) → mid ≡ u ∷ new →
+      (k + 7) / 8 + 1 ≡ n → missing k ≡ u → Stands (freedoms r) (length_form n) w mid →
+      IfOk e (λ x. Stands (freedoms r) (bits_in k (bits x)) new rest) → IfOk e (λ x. Stands (freedoms r) (bit_string_form false (bits x)) w rest)
   varying_read (Ok x) bits w mid new rest n u k e f g h s = some_bits w new rest n u (bits x) k (subst (λ m. Stands (freedoms r) (length_form n) w m) e h) f g s
   varying_read (Err x) bits w mid new rest n u k e f g h s = tt
 
-  pub varying_refused : {X : Type 0} (x : Result X DecodeError) (w mid new : List ℕ) (n u k : ℕ) → (n ≡ 0 → ⊥) → mid ≡ u ∷ new → (k + 7) / 8 + 1 ≡ n → missing k ≡ u → Stands (freedoms r) (length_form n) w mid → IfErr x (Misses (freedoms r) (bits_in k) new) → IfErr x (Misses (freedoms r) (bit_string_form false) w)
+  pub varying_refused : {X : Type 0} (x : Result X DecodeError) (w mid new : List ℕ) (n u k : ℕ) → (n ≡ 0 → ⊥) → mid ≡ u ∷ new → (k + 7) / 8 + 1 ≡ n →
+      missing k ≡ u → Stands (freedoms r) (length_form n) w mid → IfErr x (Misses (freedoms r) (bits_in k) new) → IfErr x (Misses (freedoms r) (bit_string_form false) w)
   varying_refused (Ok x) w mid new n u k z e f g h m = tt
   varying_refused (Err x) w mid new n u k z e f g h m = misses_also (freedoms r) (bits_in k) (bit_string_form false) new w x (wrong_bits w mid new n u k z e f g h) m
 
@@ -135,7 +150,8 @@ module _ (r : EncodingRules) where
   varying_one : (a b : List Bool) (w x y : List ℕ) → Stands (freedoms r) (bit_string_form false a) w x → Stands (freedoms r) (bit_string_form false b) w y → (a ≡ b) × (x ≡ y)
   varying_one a b w x y s t = go (varying_front a w x s) (varying_front b w y t)
     where
-      go : ((is_basic r ≡ true) × Stands (freedoms r) (length_form 0) w x × (a ≡ [])) ⊎ Counted (freedoms r) a w x → ((is_basic r ≡ true) × Stands (freedoms r) (length_form 0) w y × (b ≡ [])) ⊎ Counted (freedoms r) b w y → (a ≡ b) × (x ≡ y)
+      go : ((is_basic r ≡ true) × Stands (freedoms r) (length_form 0) w x × (a ≡ [])) ⊎ Counted (freedoms r) a w x →
+          ((is_basic r ≡ true) × Stands (freedoms r) (length_form 0) w y × (b ≡ [])) ⊎ Counted (freedoms r) b w y → (a ≡ b) × (x ≡ y)
       go (inl p) (inl q) = (p.2 ∙ sym q.2, (length_one (freedoms r) 0 0 w x y p.1 q.1).1)
       go (inl p) (inr c) = let o = (length_one (freedoms r) 0 (octets_of (length b)) w x _ p.1 c.counts).0 in absurd (omega (arith, o))
       go (inr c) (inl q) = let o = (length_one (freedoms r) 0 (octets_of (length a)) w y _ q.1 c.counts).0 in absurd (omega (arith, o))
@@ -181,29 +197,34 @@ module _ (r : EncodingRules) where
   from_sized true low bs w rest h = (if_front (freedoms r) (length bs == low) (bits_form bs) w rest h).1
   from_sized false low bs w rest h = h
 
-  to_sized : (t : Bool) (low : ℕ) (bs : List Bool) (w rest : List ℕ) → (t ≡ true → length bs ≡ low) → Stands (freedoms r) (bit_string_form t bs) w rest → Stands (freedoms r) (sized_bits (cond t (Some low) None) bs) w rest
+  to_sized : (t : Bool) (low : ℕ) (bs : List Bool) (w rest : List ℕ) → (t ≡ true → length bs ≡ low) →
+      Stands (freedoms r) (bit_string_form t bs) w rest → Stands (freedoms r) (sized_bits (cond t (Some low) None) bs) w rest
   unfolding sized_bits bit_string_form
   to_sized true low bs w rest e h = if_stands (freedoms r) (length bs == low) (bits_form bs) w rest (eq-eqb _ _ (e refl)) h
   to_sized false low bs w rest e h = h
 
-  string_front : (z : Size) (held : Counts) (v : Value) (w rest : List ℕ) → Stands (freedoms r) (form (bit_string z held) v) w rest → (bs : List Bool) × (admits z held (length bs) ≡ true) × Stands (freedoms r) (sized_bits (one_size z) bs) w rest
+  string_front : (z : Size) (held : Counts) (v : Value) (w rest : List ℕ) → Stands (freedoms r) (form (bit_string z held) v) w rest →
+      (bs : List Bool) × (admits z held (length bs) ≡ true) × Stands (freedoms r) (sized_bits (one_size z) bs) w rest
   unfolding form Reads
   string_front z held (bit_list bs) w rest h =
       let i = if_front (freedoms r) (admits z held (length bs)) (bit_string_form (is_fixed z) bs) w rest h in
       (bs, i.0, to_sized (is_fixed z) z.counts.low bs w rest (λ e. one_length z held (length bs) e i.0) i.1)
   string_front z held v w rest h = absurd h.2
 
-  pub string_stands : (z : Size) (held : Counts) (size : Option ℕ) (n : ℕ) (bs : List Bool) (w rest : List ℕ) → size ≡ one_size z → n ≡ length bs → admits z held n ≡ true → Stands (freedoms r) (sized_bits size bs) w rest → Stands (freedoms r) (form (bit_string z held) (bit_list bs)) w rest
+  pub string_stands : (z : Size) (held : Counts) (size : Option ℕ) (n : ℕ) (bs : List Bool) (w rest : List ℕ) → size ≡ one_size z → n ≡ length bs →
+      admits z held n ≡ true → Stands (freedoms r) (sized_bits size bs) w rest → Stands (freedoms r) (form (bit_string z held) (bit_list bs)) w rest
   unfolding form
   string_stands z held size n bs w rest e l a h =
-      if_stands (freedoms r) (admits z held (length bs)) (bit_string_form (is_fixed z) bs) w rest (ap (admits z held) (sym l) ∙ a) (from_sized (is_fixed z) z.counts.low bs w rest (subst (λ s. Stands (freedoms r) (sized_bits s bs) w rest) e h))
+      if_stands (freedoms r) (admits z held (length bs)) (bit_string_form (is_fixed z) bs) w rest (ap (admits z held) (sym l) ∙ a)
+      (from_sized (is_fixed z) z.counts.low bs w rest (subst (λ s. Stands (freedoms r) (sized_bits s bs) w rest) e h))
 
   pub no_string : (z : Size) (held : Counts) (size : Option ℕ) (w : List ℕ) → size ≡ one_size z → NoneStands (freedoms r) (sized_bits size) w → NoneStands (freedoms r) (form (bit_string z held)) w
   no_string z held size w e n v rest h =
       let f = string_front z held v w rest h in
       n f.0 rest (subst (λ s. Stands (freedoms r) (sized_bits s f.0) w rest) (sym e) f.2)
 
-  pub not_admitted : (z : Size) (held : Counts) (size : Option ℕ) (n : ℕ) (bs : List Bool) (w mid : List ℕ) → size ≡ one_size z → n ≡ length bs → admits z held n ≡ false → Stands (freedoms r) (sized_bits size bs) w mid → NoneStands (freedoms r) (form (bit_string z held)) w
+  pub not_admitted : (z : Size) (held : Counts) (size : Option ℕ) (n : ℕ) (bs : List Bool) (w mid : List ℕ) → size ≡ one_size z → n ≡ length bs →
+      admits z held n ≡ false → Stands (freedoms r) (sized_bits size bs) w mid → NoneStands (freedoms r) (form (bit_string z held)) w
   not_admitted z held size n bs w mid e l a h v rest s =
       let f = string_front z held v w rest s in
       let o = sized_one size bs f.0 w mid rest h (subst (λ s. Stands (freedoms r) (sized_bits s f.0) w rest) (sym e) f.2) in

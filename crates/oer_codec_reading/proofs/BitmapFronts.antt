@@ -1,5 +1,6 @@
 -- Octets that begin with a presence bitmap.
-use Rattle.std.proofs.Common.{◌≡◌, ℕ, ◌+◌, ◌/◌, ◌%◌, ◌^◌, ◌<◌, ◌==◌, Bool, false, inl, List, [], ◌∷◌, ◌++◌, drop, length, replicate, Some, None, slice_get, refl, sym, ap, ◌∙◌, subst, arith, append_assoc}
+use Rattle.std.proofs.Common.{◌≡◌, ℕ, ◌+◌, ◌/◌, ◌%◌, ◌^◌, ◌<◌, ◌==◌, Bool, false, inl, List, [], ◌∷◌, ◌++◌, drop}
+use Rattle.std.proofs.Common.{length, replicate, Some, None, slice_get, refl, sym, ap, ◌∙◌, subst, arith, append_assoc}
 use Rattle.std.proofs.Math.Nat.{mod-eq_of_lt}
 use Rattle.std.proofs.lemmas.Bool.{eqb-true}
 use Rattle.asn1_model.specs.Form.{Reads}
@@ -41,7 +42,8 @@ bits_move : (free : Freedom → Bool) (bs : List Bool) → Anywhere free (bits_f
 unfolding bits_form
 bits_move free bs = moves_varied free {c = any_unused_bits} (λ unused. moves_if free _ (moves_exactly free _))
 
-counted_stands : (free : Freedom → Bool) (bs : List Bool) (w mid rest : List ℕ) → Stands free (length_form (octets_of (length bs))) w (missing (length bs) ∷ mid) → Stands free (bits_form bs) mid rest → Stands free (counted_bits bs) w rest
+counted_stands : (free : Freedom → Bool) (bs : List Bool) (w mid rest : List ℕ) →
+    Stands free (length_form (octets_of (length bs))) w (missing (length bs) ∷ mid) → Stands free (bits_form bs) mid rest → Stands free (counted_bits bs) w rest
 unfolding Reads counted_bits
 counted_stands free bs w mid rest l b =
     let m = missing (length bs) in
@@ -66,16 +68,20 @@ module _ (r : EncodingRules) where
       let o = (length_one (freedoms r) n (octets_of (length bs)) w mid c.0 h c.1).0 in
       absurd (omega (arith, z, o))
 
-  some_bits : (w mid rest : List ℕ) (n u k : ℕ) (bs : List Bool) → Stands (freedoms r) (length_form n) w (u ∷ mid) → octets_of k ≡ n → missing k ≡ u → Stands (freedoms r) (bits_in k bs) mid rest → Stands (freedoms r) (counted_bits bs) w rest
+  some_bits : (w mid rest : List ℕ) (n u k : ℕ) (bs : List Bool) → Stands (freedoms r) (length_form n) w (u ∷ mid) → octets_of k ≡ n → missing k ≡ u →
+      Stands (freedoms r) (bits_in k bs) mid rest → Stands (freedoms r) (counted_bits bs) w rest
   some_bits w mid rest n u k bs h e f s =
       let i = if_front (freedoms r) (length bs == k) (bits_form bs) mid rest s in
       let l : length bs ≡ k = eqb-true _ _ i.0 in
       let a : n ≡ octets_of (length bs) = sym e ∙ ap octets_of (sym l) in
       let b : u ≡ missing (length bs) = sym f ∙ ap missing (sym l) in
-      counted_stands (freedoms r) bs w mid rest (subst (λ x. Stands (freedoms r) (length_form x) w (missing (length bs) ∷ mid)) a (subst (λ x. Stands (freedoms r) (length_form n) w (x ∷ mid)) b h)) i.1
+      counted_stands (freedoms r) bs w mid rest (subst (λ x. Stands (freedoms r) (length_form x) w (missing (length bs) ∷ mid)) a
+      (subst (λ x. Stands (freedoms r) (length_form n) w (x ∷ mid)) b h)) i.1
 
-  pub bitmap_read : (bs : List Bool) (w mid new rest : List ℕ) (n u k : ℕ) → mid ≡ u ∷ new → (k + 7) / 8 + 1 ≡ n → missing k ≡ u → Stands (freedoms r) (length_form n) w mid → Stands (freedoms r) (bits_in k bs) new rest → Stands (freedoms r) (counted_bits bs) w rest
+  pub bitmap_read : (bs : List Bool) (w mid new rest : List ℕ) (n u k : ℕ) → mid ≡ u ∷ new → (k + 7) / 8 + 1 ≡ n → missing k ≡ u →
+      Stands (freedoms r) (length_form n) w mid → Stands (freedoms r) (bits_in k bs) new rest → Stands (freedoms r) (counted_bits bs) w rest
   bitmap_read bs w mid new rest n u k e f g h s = some_bits w new rest n u k bs (subst (λ m. Stands (freedoms r) (length_form n) w m) e h) f g s
 
-  pub bitmap_refused : (x : DecodeError) (w mid new : List ℕ) (n u k : ℕ) → (n ≡ 0 → ⊥) → mid ≡ u ∷ new → (k + 7) / 8 + 1 ≡ n → missing k ≡ u → Stands (freedoms r) (length_form n) w mid → Misses (freedoms r) (bits_in k) new x → Misses (freedoms r) counted_bits w x
+  pub bitmap_refused : (x : DecodeError) (w mid new : List ℕ) (n u k : ℕ) → (n ≡ 0 → ⊥) → mid ≡ u ∷ new → (k + 7) / 8 + 1 ≡ n → missing k ≡ u →
+      Stands (freedoms r) (length_form n) w mid → Misses (freedoms r) (bits_in k) new x → Misses (freedoms r) counted_bits w x
   bitmap_refused x w mid new n u k z e f g h m = misses_also (freedoms r) (bits_in k) counted_bits new w x (λ none. no_bitmap w (wrong_bits r w mid new n u k z e f g h none)) m

@@ -71,16 +71,20 @@ module _ (c : ChoiceTags) (t : Tag) (o : Option Chosen) (e : o ≡ alternative_o
       sym (e ∙ (ap (λ p. alternative_at c.extensible p (place_of c.additions t)) (place_is t c.roots) ∙ ap (alternative_at c.extensible (tag_place t c.roots)) (place_is t c.additions)))
 
   pub found : IfSome o (λ x. IsPlace c.roots c.extensible c.additions t x.added x.place)
-  found = subst (λ p. IfSome p (λ x. IsPlace c.roots c.extensible c.additions t x.added x.place)) by_places (found_at c.roots c.additions t c.extensible (tag_place t c.roots) (tag_place t c.additions) refl refl)
+  found = subst (λ p. IfSome p (λ x. IsPlace c.roots c.extensible c.additions t x.added x.place)) by_places
+      (found_at c.roots c.additions t c.extensible (tag_place t c.roots) (tag_place t c.additions) refl refl)
 
   pub found_within : IfSome o (λ x. x.place < length (cond x.added c.additions c.roots))
-  found_within = subst (λ p. IfSome p (λ x. x.place < length (cond x.added c.additions c.roots))) by_places (within_at c.roots c.additions t c.extensible (tag_place t c.roots) (tag_place t c.additions) refl refl)
+  found_within = subst (λ p. IfSome p (λ x. x.place < length (cond x.added c.additions c.roots))) by_places
+      (within_at c.roots c.additions t c.extensible (tag_place t c.roots) (tag_place t c.additions) refl refl)
 
   pub not_found : IfNone o ((plus : Bool) (i : ℕ) → IsPlace c.roots c.extensible c.additions t plus i → ⊥)
-  not_found = subst (λ p. IfNone p ((plus : Bool) (i : ℕ) → IsPlace c.roots c.extensible c.additions t plus i → ⊥)) by_places (none_at c.roots c.additions t c.extensible (tag_place t c.roots) (tag_place t c.additions) refl refl)
+  not_found = subst (λ p. IfNone p ((plus : Bool) (i : ℕ) → IsPlace c.roots c.extensible c.additions t plus i → ⊥)) by_places
+      (none_at c.roots c.additions t c.extensible (tag_place t c.roots) (tag_place t c.additions) refl refl)
 
 -- ---- tags
-pub no_tag : (free : Oer.Freedom → Bool) (roots others : List Tag) (os : List ℕ) (e : DecodeError) → list_all is_in_32_bits roots ≡ true → list_all is_in_32_bits others ≡ true → Misses free tag_in os e → NoTag free roots others os e
+pub no_tag : (free : Oer.Freedom → Bool) (roots others : List Tag) (os : List ℕ) (e : DecodeError) → list_all is_in_32_bits roots ≡ true →
+    list_all is_in_32_bits others ≡ true → Misses free tag_in os e → NoTag free roots others os e
 no_tag free roots others os e a b m = record {
   none = λ i x t plus j rest p s. missed free tag_in os e m i t rest (if_stands free (is_in_32_bits t) (Oer.tag_form t) os rest (fits roots x others t a b plus j p) s);
   fresh = not_before free tag_in os e m;

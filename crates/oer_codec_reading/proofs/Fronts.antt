@@ -20,7 +20,8 @@ fronts_equal (x ∷ a) (y ∷ b) r s l e =
     (cc, q.1)
 
 -- One form is missed if another is, and the first comes nowhere that the other does not.
-pub misses_also : {X Y : Type 0} (free : Freedom → Bool) (f : X → OctetForm) (g : Y → OctetForm) (os ps : List ℕ) (e : DecodeError) → (NoneStands free f os → NoneStands free g ps) → Misses free f os e → Misses free g ps e
+pub misses_also : {X Y : Type 0} (free : Freedom → Bool) (f : X → OctetForm) (g : Y → OctetForm) (os ps : List ℕ) (e : DecodeError) →
+    (NoneStands free f os → NoneStands free g ps) → Misses free f os e → Misses free g ps e
 misses_also free f g os ps OutOfMemory h m = tt
 misses_also free f g os ps AlreadyFailed h m = absurd m
 misses_also free f g os ps e h m = h m
@@ -63,7 +64,8 @@ module _ (free : Freedom → Bool) where
   unfolding Reads
   varied_stands c d e f os rest a h = (h.0, h.1, (e, a, h.2))
 
-  pub varied_front : (c : Freedom) (d : Detail c) (f : Detail c → OctetForm) (os rest : List ℕ) → Stands free (varied c d f) os rest → (e : Detail c) × ((e ≡ d) ⊎ IsTrue (free c)) × Stands free (f e) os rest
+  pub varied_front : (c : Freedom) (d : Detail c) (f : Detail c → OctetForm) (os rest : List ℕ) → Stands free (varied c d f) os rest →
+      (e : Detail c) × ((e ≡ d) ⊎ IsTrue (free c)) × Stands free (f e) os rest
   unfolding Reads
   varied_front c d f os rest h = (h.2.0, h.2.1, (h.0, h.1, h.2.2))
 

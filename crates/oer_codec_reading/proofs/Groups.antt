@@ -53,7 +53,8 @@ begun_more (suc m) o os p h k =
     let n = suc m in
     let q : (suc m * 128 + o % 128) / 128 ≡ suc m = omega arith in
     let r : (suc m * 128 + o % 128) % 128 + 128 ≡ o = omega arith in
-    let l : leading (suc m * 128 + o % 128) ≡ leading (suc m) ++ o ∷ [] = leading_more (suc m * 128 + o % 128) p ∙ ap (λ x. leading x ++ ((suc m * 128 + o % 128) % 128 + 128) ∷ []) q ∙ ap (λ x. leading (suc m) ++ x ∷ []) r in
+    let l : leading (suc m * 128 + o % 128) ≡ leading (suc m) ++ o ∷ [] = leading_more (suc m * 128 + o % 128) p ∙
+    ap (λ x. leading x ++ ((suc m * 128 + o % 128) % 128 + 128) ∷ []) q ∙ ap (λ x. leading (suc m) ++ x ∷ []) r in
     sym (ap (λ (t : List ℕ). t ++ os) (begun_is (suc m * 128 + o % 128) p ∙ l) ∙ append_assoc (leading (suc m)) (o ∷ []) os)
 
 begun_ended : (n o : ℕ) (os : List ℕ) → o < 128 → begun n ++ (o ∷ os) ≡ groups_of_seven (n * 128 + o % 128) ++ os
@@ -63,7 +64,8 @@ begun_ended zero o os h =
 begun_ended (suc m) o os h =
     let q : (suc m * 128 + o % 128) / 128 ≡ suc m = omega arith in
     let r : (suc m * 128 + o % 128) % 128 ≡ o = omega arith in
-    let l : groups_of_seven (suc m * 128 + o % 128) ≡ leading (suc m) ++ o ∷ [] = groups_more (suc m * 128 + o % 128) (omega arith) ∙ ap (λ x. leading x ++ ((suc m * 128 + o % 128) % 128) ∷ []) q ∙ ap (λ x. leading (suc m) ++ x ∷ []) r in
+    let l : groups_of_seven (suc m * 128 + o % 128) ≡ leading (suc m) ++ o ∷ [] = groups_more (suc m * 128 + o % 128) (omega arith) ∙
+    ap (λ x. leading x ++ ((suc m * 128 + o % 128) % 128) ∷ []) q ∙ ap (λ x. leading (suc m) ++ x ∷ []) r in
     sym (ap (λ (t : List ℕ). t ++ os) l ∙ append_assoc (leading (suc m)) (o ∷ []) os)
 
 -- A number that is read comes first, and fits in 32 bits.
@@ -82,7 +84,8 @@ pub number_read : (os : List ℕ) (n m : ℕ) (rest : List ℕ) → number_behin
 number_read [] n m rest e = absurd (none_read (m, rest) e)
 number_read (o ∷ os) n m rest e = go (is_wrong_group n (o % 128)) refl (ltb o 128) refl (is_octet o) refl (λ f. number_read os (n * 128 + o % 128) m rest f)
   where
-    go : (w : Bool) → is_wrong_group n (o % 128) ≡ w → (t : Bool) → ltb o 128 ≡ t → (u : Bool) → is_octet o ≡ u → (number_behind (n * 128 + o % 128) os ≡ Some (m, rest) → Read (n * 128 + o % 128) m os rest) → Read n m (o ∷ os) rest
+    go : (w : Bool) → is_wrong_group n (o % 128) ≡ w → (t : Bool) → ltb o 128 ≡ t → (u : Bool) → is_octet o ≡ u →
+        (number_behind (n * 128 + o % 128) os ≡ Some (m, rest) → Read (n * 128 + o % 128) m os rest) → Read n m (o ∷ os) rest
     go true w t l u k further = absurd (none_read (m, rest) (sym (goes_wrong n o os w) ∙ e))
     go false w true l u k further =
         let h : o < 128 = ltb-true o 128 l in
@@ -92,7 +95,12 @@ number_read (o ∷ os) n m rest e = go (is_wrong_group n (o % 128)) refl (ltb o 
         let j : os ≡ rest = ap (λ (q : ℕ × List ℕ). q.1) f in
         let x = p.0 in
         let y = p.1 in
-        record { some = omega (arith, x, i); fits = omega (arith, y, i); text = ap (λ k. groups_of_seven k ++ rest) (sym i) ∙ ap (λ l. groups_of_seven (n * 128 + o % 128) ++ l) (sym j) ∙ sym (begun_ended n o os h) }
+        record {
+          some = omega (arith, x, i);
+          fits = omega (arith, y, i);
+          text = ap (λ k. groups_of_seven k ++ rest) (sym i) ∙
+              ap (λ l. groups_of_seven (n * 128 + o % 128) ++ l) (sym j) ∙ sym (begun_ended n o os h);
+        }
     go false w false l false k further = absurd (none_read (m, rest) (sym (no_octet n o os w (ltb-false o 128 l) k) ∙ e))
     go false w false l true k further =
         let h : 128 ≤ o = ltb-false o 128 l in
@@ -106,7 +114,8 @@ leading_read : (most n : ℕ) (os : List ℕ) → n ≤ most → 0 < n → n < 2
 leading_read zero n os h p f = absurd (omega arith)
 leading_read (suc most) n os h p f = go (ltb n 128) refl (λ further l k. leading_read most (n / 128) further l k (omega arith))
   where
-    go : (t : Bool) → ltb n 128 ≡ t → ((further : List ℕ) → n / 128 ≤ most → 0 < n / 128 → number_behind 0 (leading (n / 128) ++ further) ≡ number_behind (n / 128) further) → number_behind 0 (leading n ++ os) ≡ number_behind n os
+    go : (t : Bool) → ltb n 128 ≡ t → ((further : List ℕ) → n / 128 ≤ most → 0 < n / 128 → number_behind 0 (leading (n / 128) ++ further)
+        ≡ number_behind (n / 128) further) → number_behind 0 (leading n ++ os) ≡ number_behind n os
     go true e r =
         let l : n < 128 = ltb-true n 128 e in
         let m : 0 * 128 + (128 + n) % 128 ≡ n = omega arith in

@@ -11,17 +11,17 @@ use Rattle.asn1_values_identifiers.specs.Identifiers.{arcs_of}
 use Rattle.asn1_values_identifiers.specs.declared.fault.IdentifierError.{IdentifierError}
 use Rattle.asn1_values_identifiers.specs.declared.fault.IdentifierError.TheVariants.{Memory}
 use Rattle.asn1_values_identifiers.proofs.Whole.{identifier_read}
-use Rattle.oer_codec_reading.specs.Fronts.{Stands, Front, NoneStands, NoFront}
+use Rattle.oer_codec_reading.specs.Fronts.{Stands, FrontOf, NoneStands, NoFront}
 use Rattle.oer_codec_reading.proofs.Fronts.{if_stands, if_front, none_misses}
 use Rattle.oer_codec_reading.proofs.LengthFronts.{counted_one}
 
 module _ (free : Freedom → Bool) where
-  identifier_front : (v : Value) (w rest : List ℕ) → Front free object_identifier v w rest → (ns : List ℕ) × (is_identifier ns ≡ true) × Stands free (counted (identifier_octets ns)) w rest
+  identifier_front : (v : Value) (w rest : List ℕ) → FrontOf free object_identifier v w rest → (ns : List ℕ) × (is_identifier ns ≡ true) × Stands free (counted (identifier_octets ns)) w rest
   unfolding form Reads
   identifier_front (arcs ns) w rest h = let i = if_front free (is_identifier ns) (counted (identifier_octets ns)) w rest h in (ns, i.0, i.1)
   identifier_front v w rest h = absurd h.2
 
-  pub identifier_stands : (ns os w rest : List ℕ) → is_identifier ns ≡ true → identifier_octets ns ≡ os → Stands free (counted os) w rest → Front free object_identifier (arcs ns) w rest
+  pub identifier_stands : (ns os w rest : List ℕ) → is_identifier ns ≡ true → identifier_octets ns ≡ os → Stands free (counted os) w rest → FrontOf free object_identifier (arcs ns) w rest
   unfolding form
   identifier_stands ns os w rest i e h = if_stands free (is_identifier ns) (counted (identifier_octets ns)) w rest i (subst (λ x. Stands free (counted x) w rest) (sym e) h)
 
@@ -36,6 +36,7 @@ module _ (free : Freedom → Bool) where
       let x : Err e ≡ Ok f.0 = sym n ∙ k in
       cc
 
-  pub no_identifier : (os w mid : List ℕ) (e : IdentifierError) (x : DecodeError) → (e ≡ Memory) ⊎ (arcs_of os ≡ Err e) → (e ≡ Memory → x ≡ OutOfMemory) → ¬ (x ≡ AlreadyFailed) → Stands free (counted os) w mid → NoFront free object_identifier w x
+  pub no_identifier : (os w mid : List ℕ) (e : IdentifierError) (x : DecodeError) → (e ≡ Memory) ⊎ (arcs_of os ≡ Err e) →
+      (e ≡ Memory → x ≡ OutOfMemory) → ¬ (x ≡ AlreadyFailed) → Stands free (counted os) w mid → NoFront free object_identifier w x
   no_identifier os w mid e x (inl m) f q h = subst (NoFront free object_identifier w) (sym (f m)) tt
   no_identifier os w mid e x (inr n) f q h = none_misses free (form object_identifier) w x q (no_arcs os w mid e n h)

@@ -1,7 +1,9 @@
 -- Octets that begin with an INTEGER.
 use Rattle.asn1_model.specs.Schema.{wide_range}
 use Rattle.std.specs.Prelude.{max}
-use Rattle.std.proofs.Common.{◌≡◌, ℕ, ◌≤◌, leb, not, ℤ, pos, negsuc, Bool, true, false, cond, ◌&&◌, ◌||◌, ◌⊎◌, inl, inr, Option, Some, None, List, Result, Ok, Err, IfOk, OnOk, IfErr, refl, sym, ap, ◌∙◌, subst, arith}
+use Rattle.std.proofs.Common.{◌≡◌, ℕ, ◌≤◌, leb, not, ℤ, pos, negsuc, Bool, true, false, cond, ◌&&◌, ◌||◌, ◌⊎◌, inl, inr}
+use Rattle.std.proofs.Common.{Option, Some, None, List, Result, Ok, Err, IfOk, OnOk, IfErr, refl, sym, ap, ◌∙◌, subst}
+use Rattle.std.proofs.Common.{arith}
 use Rattle.std.proofs.lemmas.Int.{ints}
 use Rattle.std.proofs.lemmas.Bool.{false≢true, leb-true, le-leb, cases_lt, and_parts}
 use Rattle.std.proofs.Math.Bool.{or-true}
@@ -22,8 +24,8 @@ use Rattle.asn1_schema_constraints.specs.declared.extensions.Extensible.{Extensi
 use Rattle.asn1_schema_constraints.specs.declared.parts.Value as Constraint
 use Rattle.asn1_schema_errors.specs.declared.DecodeError.{DecodeError}
 use Rattle.asn1_schema_errors.specs.declared.DecodeError.TheVariants.{AlreadyFailed, OutOfMemory}
-use Rattle.oer_codec_reading.specs.Fronts.{Stands, Front, NoneStands, NoFront}
-use Rattle.oer_codec_reading.specs.Whole.{holds, number_in, sign_under, width_under}
+use Rattle.oer_codec_reading.specs.Fronts.{Stands, FrontOf, NoneStands, NoFront}
+use Rattle.oer_codec_reading.specs.Integers.{holds, number_in, sign_under, width_under}
 use Rattle.oer_codec_reading.proofs.Freedoms.{and_true}
 use Rattle.oer_codec_reading.proofs.Fronts.{if_stands, if_front, none_misses}
 use Rattle.oer_codec_reading.proofs.LengthFronts.{octets_hold}
@@ -52,7 +54,8 @@ signed_at_most u v h =
     let f = signed_octets-plain v in
     omega (arith, e, f, w)
 
-some_octets : (k j : ℕ) (a b c d : Bool) → cond a (Some 1) (cond b (Some 2) (cond c (Some 4) (cond d (Some 8) None))) ≡ Some j → (a ≡ true → k ≤ 1) → (b ≡ true → k ≤ 2) → (c ≡ true → k ≤ 4) → (d ≡ true → k ≤ 8) → k ≤ j
+some_octets : (k j : ℕ) (a b c d : Bool) → cond a (Some 1) (cond b (Some 2) (cond c (Some 4) (cond d (Some 8) None))) ≡ Some j → (a ≡ true → k ≤ 1) →
+    (b ≡ true → k ≤ 2) → (c ≡ true → k ≤ 4) → (d ≡ true → k ≤ 8) → k ≤ j
 some_octets k j true b c d e f g h i = let q : 1 ≡ j = cc in subst (λ x. k ≤ x) q (f refl)
 some_octets k j false true c d e f g h i = let q : 2 ≡ j = cc in subst (λ x. k ≤ x) q (g refl)
 some_octets k j false false true d e f g h i = let q : 4 ≡ j = cc in subst (λ x. k ≤ x) q (h refl)
@@ -68,7 +71,8 @@ holds_by false None v h = refl
 holds_by true (Some k) v h = h k refl
 holds_by false (Some k) v h = h k refl
 
-range_holds : (low high : Option ℤ) (v : ℤ) → ((option_map_or (λ x. is_at_most x v) low true) && (option_map_or (λ x. is_at_most v x) high true)) ≡ true → holds (has_sign low) (fixed_width low high) v ≡ true
+range_holds : (low high : Option ℤ) (v : ℤ) → ((option_map_or (λ x. is_at_most x v) low true) && (option_map_or (λ x. is_at_most v x) high true))
+    ≡ true → holds (has_sign low) (fixed_width low high) v ≡ true
 range_holds (Some (pos low)) (Some (pos high)) (pos n) h =
     let p = and_parts (is_at_most (pos low) (pos n)) (is_at_most (pos n) (pos high)) h in
     let l = octet_width_at_most n high (at_most_natural n high p.1) in
@@ -94,23 +98,29 @@ range_holds (Some (negsuc low)) (Some high) v h =
 -- ---- the form
 
 module _ (free : Freedom → Bool) where
-  either_front : (e : Bool) (low high : Option ℤ) (v : ℤ) (w rest : List ℕ) → Stands free (cond e (signed v) (only_if ((option_map_or (λ x. is_at_most x v) low true) && (option_map_or (λ x. is_at_most v x) high true)) (bounded low high v))) w rest
-      → ((e || ((option_map_or (λ x. is_at_most x v) low true) && (option_map_or (λ x. is_at_most v x) high true))) ≡ true) × Stands free (number_in (e || has_sign low) (cond e None (fixed_width low high)) v) w rest
+  either_front : (e : Bool) (low high : Option ℤ) (v : ℤ) (w rest : List ℕ) →
+      Stands free (cond e (signed v) (only_if ((option_map_or (λ x. is_at_most x v) low true) && (option_map_or (λ x. is_at_most v x) high true)) (bounded low high v))) w rest
+      → ((e || ((option_map_or (λ x. is_at_most x v) low true) && (option_map_or (λ x. is_at_most v x) high true))) ≡ true) ×
+      Stands free (number_in (e || has_sign low) (cond e None (fixed_width low high)) v) w rest
   unfolding number_in
   either_front true low high v w rest h = (refl, h)
   either_front false low high v w rest h =
       let i = if_front free ((option_map_or (λ x. is_at_most x v) low true) && (option_map_or (λ x. is_at_most v x) high true)) (bounded low high v) w rest h in
       (i.0, if_stands free (holds (has_sign low) (fixed_width low high) v) _ w rest (range_holds low high v i.0) (subst (λ x. Stands free x w rest) (form_told low high v) i.1))
 
-  either_stands : (e : Bool) (low high : Option ℤ) (v : ℤ) (w rest : List ℕ) → (e || ((option_map_or (λ x. is_at_most x v) low true) && (option_map_or (λ x. is_at_most v x) high true))) ≡ true → Stands free (number_in (e || has_sign low) (cond e None (fixed_width low high)) v) w rest
+  either_stands : (e : Bool) (low high : Option ℤ) (v : ℤ) (w rest : List ℕ) →
+      (e || ((option_map_or (λ x. is_at_most x v) low true) && (option_map_or (λ x. is_at_most v x) high true))) ≡ true →
+      Stands free (number_in (e || has_sign low) (cond e None (fixed_width low high)) v) w rest
       → Stands free (cond e (signed v) (only_if ((option_map_or (λ x. is_at_most x v) low true) && (option_map_or (λ x. is_at_most v x) high true)) (bounded low high v))) w rest
   unfolding number_in
   either_stands true low high v w rest a h = h
   either_stands false low high v w rest a h =
       let i = if_front free (holds (has_sign low) (fixed_width low high) v) (cond (has_sign low) (signed_form (fixed_width low high) v) (natural_form (fixed_width low high) v)) w rest h in
-      if_stands free ((option_map_or (λ x. is_at_most x v) low true) && (option_map_or (λ x. is_at_most v x) high true)) (bounded low high v) w rest a (subst (λ x. Stands free x w rest) (sym (form_told low high v)) i.1)
+      if_stands free ((option_map_or (λ x. is_at_most x v) low true) && (option_map_or (λ x. is_at_most v x) high true)) (bounded low high v) w rest a
+      (subst (λ x. Stands free x w rest) (sym (form_told low high v)) i.1)
 
-  integer_front : (b : Bounds) (held : Range) (u : Value) (w rest : List ℕ) → Front free (integer b held) u w rest → (v : ℤ) × (is_within held v ≡ true) × ((b.extensible || is_within b.range v) ≡ true) × Stands free (number_in (sign_under b) (width_under b) v) w rest
+  integer_front : (b : Bounds) (held : Range) (u : Value) (w rest : List ℕ) → FrontOf free (integer b held) u w rest → (v : ℤ) ×
+      (is_within held v ≡ true) × ((b.extensible || is_within b.range v) ≡ true) × Stands free (number_in (sign_under b) (width_under b) v) w rest
   unfolding form integer_form Reads
   integer_front b held (number v) w rest h =
       let i = if_front free (is_within held v && (not (is_bounded b) || fits_128 v)) _ w rest h in
@@ -118,47 +128,65 @@ module _ (free : Freedom → Bool) where
       (v, (and_parts (is_within held v) (not (is_bounded b) || fits_128 v) i.0).0, e.0, e.1)
   integer_front b held u w rest h = absurd h.2
 
-  integer_stands : (b : Bounds) (held : Range) (v : ℤ) (w rest : List ℕ) → is_within held v ≡ true → (not (is_bounded b) || fits_128 v) ≡ true → (b.extensible || is_within b.range v) ≡ true → Stands free (number_in (sign_under b) (width_under b) v) w rest → Front free (integer b held) (number v) w rest
+  integer_stands : (b : Bounds) (held : Range) (v : ℤ) (w rest : List ℕ) → is_within held v ≡ true → (not (is_bounded b) || fits_128 v) ≡ true →
+      (b.extensible || is_within b.range v) ≡ true → Stands free (number_in (sign_under b) (width_under b) v) w rest → FrontOf free (integer b held) (number v) w rest
   unfolding form integer_form
-  integer_stands b held v w rest a f e h = if_stands free (is_within held v && (not (is_bounded b) || fits_128 v)) _ w rest (and_true _ _ a f) (either_stands b.extensible b.range.low b.range.high v w rest e h)
+  integer_stands b held v w rest a f e h = if_stands free (is_within held v && (not (is_bounded b) || fits_128 v)) _ w rest (and_true _ _ a f)
+      (either_stands b.extensible b.range.low b.range.high v w rest e h)
 
   -- ---- what read_integer returns
 
-  pub integer_read : (c : Option (Extensible Constraint.Value)) (h : Range) (v : ℤ) (w rest : List ℕ) → admits_whole c v ≡ true → is_within h v ≡ true → Stands free (number_in (sign_under (bounds_of c)) (width_under (bounds_of c)) v) w rest → Front free (integer (bounds_of c) (held_of c h)) (number v) w rest
+  pub integer_read : (c : Option (Extensible Constraint.Value)) (h : Range) (v : ℤ) (w rest : List ℕ) → admits_whole c v ≡ true →
+      is_within h v ≡ true → Stands free (number_in (sign_under (bounds_of c)) (width_under (bounds_of c)) v) w rest → FrontOf free (integer (bounds_of c) (held_of c h)) (number v) w rest
   integer_read None h v w rest a i s = integer_stands (bounds_of None) h v w rest i refl refl s
   integer_read (Some c) h v w rest a i s =
       let p = and_parts (is_within wide_range v) _ a in
-      integer_stands (bounds_of (Some c)) (held_of (Some c) h) v w rest (Held.admitted_held (Some c) h v a i) (ap (λ t. not (is_bounded (bounds_of (Some c))) || t) (Held.wide_fits v p.0) ∙ or-true (not (is_bounded (bounds_of (Some c))))) p.1 s
+      integer_stands (bounds_of (Some c)) (held_of (Some c) h) v w rest (Held.admitted_held (Some c) h v a i)
+      (ap (λ t. not (is_bounded (bounds_of (Some c))) || t) (Held.wide_fits v p.0) ∙ or-true (not (is_bounded (bounds_of (Some c))))) p.1 s
 
-  pub no_integer : (c : Option (Extensible Constraint.Value)) (h : Range) (sign : Bool) (width : Option ℕ) (w : List ℕ) → sign ≡ sign_under (bounds_of c) → width ≡ width_under (bounds_of c) → NoneStands free (number_in sign width) w → NoneStands free (form (integer (bounds_of c) (held_of c h))) w
+  pub no_integer : (c : Option (Extensible Constraint.Value)) (h : Range) (sign : Bool) (width : Option ℕ) (w : List ℕ) →
+      sign ≡ sign_under (bounds_of c) → width ≡ width_under (bounds_of c) → NoneStands free (number_in sign width) w → NoneStands free (form (integer (bounds_of c) (held_of c h))) w
   no_integer c h sign width w e f n u rest s =
       let i = integer_front (bounds_of c) (held_of c h) u w rest s in
       n i.0 rest (subst (λ t. Stands free (number_in t width i.0) w rest) (sym e) (subst (λ o. Stands free (number_in (sign_under (bounds_of c)) o i.0) w rest) (sym f) i.3))
 
   -- a number that comes first and is not of the type
-  other_integer : (c : Option (Extensible Constraint.Value)) (h : Range) (v : ℤ) (w mid : List ℕ) → (is_within (held_of c h) v ≡ true → ((bounds_of c).extensible || is_within (bounds_of c).range v) ≡ true → ⊥) → Stands free (number_in (sign_under (bounds_of c)) (width_under (bounds_of c)) v) w mid → NoneStands free (form (integer (bounds_of c) (held_of c h))) w
+  other_integer : (c : Option (Extensible Constraint.Value)) (h : Range) (v : ℤ) (w mid : List ℕ) →
+      (is_within (held_of c h) v ≡ true → ((bounds_of c).extensible || is_within (bounds_of c).range v) ≡ true → ⊥) →
+      Stands free (number_in (sign_under (bounds_of c)) (width_under (bounds_of c)) v) w mid → NoneStands free (form (integer (bounds_of c) (held_of c h))) w
   other_integer c h v w mid n s u rest t =
       let i = integer_front (bounds_of c) (held_of c h) u w rest t in
       let o = (number_one free (sign_under (bounds_of c)) (width_under (bounds_of c)) v i.0 w mid rest s i.3).0 in
       n (ap (is_within (held_of c h)) o ∙ i.1) (ap (λ x. (bounds_of c).extensible || is_within (bounds_of c).range x) o ∙ i.2)
 
-  pub not_admitted : (c : Option (Extensible Constraint.Value)) (h : Range) (v : ℤ) (w mid : List ℕ) → admits_whole c v ≡ false → Stands free (number_in (sign_under (bounds_of c)) (width_under (bounds_of c)) v) w mid → NoneStands free (form (integer (bounds_of c) (held_of c h))) w
+  pub not_admitted : (c : Option (Extensible Constraint.Value)) (h : Range) (v : ℤ) (w mid : List ℕ) → admits_whole c v ≡ false →
+      Stands free (number_in (sign_under (bounds_of c)) (width_under (bounds_of c)) v) w mid → NoneStands free (form (integer (bounds_of c) (held_of c h))) w
   not_admitted c h v w mid a s = other_integer c h v w mid (λ x y. Held.not_admitted c h v a x y) s
 
-  pub not_held : (c : Option (Extensible Constraint.Value)) (h : Range) (v : ℤ) (w mid : List ℕ) → is_within h v ≡ false → Stands free (number_in (sign_under (bounds_of c)) (width_under (bounds_of c)) v) w mid → NoneStands free (form (integer (bounds_of c) (held_of c h))) w
+  pub not_held : (c : Option (Extensible Constraint.Value)) (h : Range) (v : ℤ) (w mid : List ℕ) → is_within h v ≡ false →
+      Stands free (number_in (sign_under (bounds_of c)) (width_under (bounds_of c)) v) w mid → NoneStands free (form (integer (bounds_of c) (held_of c h))) w
   not_held c h v w mid a s = other_integer c h v w mid (λ x y. Held.not_held c h v a x) s
 
-  same_form : (c : Option (Extensible Constraint.Value)) (sign : Bool) (width : Option ℕ) (v : ℤ) (w rest : List ℕ) → sign ≡ sign_under (bounds_of c) → width ≡ width_under (bounds_of c) → Stands free (number_in sign width v) w rest → Stands free (number_in (sign_under (bounds_of c)) (width_under (bounds_of c)) v) w rest
+  same_form : (c : Option (Extensible Constraint.Value)) (sign : Bool) (width : Option ℕ) (v : ℤ) (w rest : List ℕ) →
+      sign ≡ sign_under (bounds_of c) → width ≡ width_under (bounds_of c) → Stands free (number_in sign width v) w rest →
+      Stands free (number_in (sign_under (bounds_of c)) (width_under (bounds_of c)) v) w rest
   same_form c sign width v w rest e f s = subst (λ t. Stands free (number_in t (width_under (bounds_of c)) v) w rest) e (subst (λ o. Stands free (number_in sign o v) w rest) f s)
 
-  pub value_read : {X : Type 0} (r : Result X DecodeError) (value : X → ℤ) (c : Option (Extensible Constraint.Value)) (h : Range) (sign : Bool) (width : Option ℕ) (v : ℤ) (w rest : List ℕ) → sign ≡ sign_under (bounds_of c) → width ≡ width_under (bounds_of c)
-      → IfOk r (λ x. value x ≡ v) → OnOk r (is_within h v ≡ true) → OnOk r (admits_whole c v ≡ true) → Stands free (number_in sign width v) w rest → IfOk r (λ x. Front free (integer (bounds_of c) (held_of c h)) (number (value x)) w rest)
-  value_read (Ok x) value c h sign width v w rest e f n i a s = subst (λ z. Front free (integer (bounds_of c) (held_of c h)) (number z) w rest) (sym n) (integer_read c h v w rest a i (same_form c sign width v w rest e f s))
+  pub value_read : {X : Type 0} (r : Result X DecodeError) (value : X → ℤ) (c : Option (Extensible Constraint.Value)) (h : Range) (sign : Bool)
+      (width : Option ℕ) (v : ℤ) (w rest : List ℕ) → sign ≡ sign_under (bounds_of c) → width ≡ width_under (bounds_of c)
+      → IfOk r (λ x. value x ≡ v) → OnOk r (is_within h v ≡ true) → OnOk r (admits_whole c v ≡ true) → Stands free (number_in sign width v) w rest →
+      IfOk r (λ x. FrontOf free (integer (bounds_of c) (held_of c h)) (number (value x)) w rest)
+  value_read (Ok x) value c h sign width v w rest e f n i a s =
+      subst (λ z. FrontOf free (integer (bounds_of c) (held_of c h)) (number z) w rest) (sym n) (integer_read c h v w rest a i (same_form c sign width v w rest e f s))
   value_read (Err e) value c h sign width v w rest d f n i a s = tt
 
-  pub value_refused : {X : Type 0} (r : Result X DecodeError) (c : Option (Extensible Constraint.Value)) (h : Range) (sign : Bool) (width : Option ℕ) (v : ℤ) (w rest : List ℕ) → sign ≡ sign_under (bounds_of c) → width ≡ width_under (bounds_of c)
-      → IfErr r (λ e. ¬ (e ≡ AlreadyFailed)) → IfErr r (λ e. (e ≡ OutOfMemory) ⊎ ((admits_whole c v ≡ false) ⊎ (is_within h v ≡ false))) → Stands free (number_in sign width v) w rest → IfErr r (NoFront free (integer (bounds_of c) (held_of c h)) w)
+  pub value_refused : {X : Type 0} (r : Result X DecodeError) (c : Option (Extensible Constraint.Value)) (h : Range) (sign : Bool) (width : Option ℕ)
+      (v : ℤ) (w rest : List ℕ) → sign ≡ sign_under (bounds_of c) → width ≡ width_under (bounds_of c)
+      → IfErr r (λ e. ¬ (e ≡ AlreadyFailed)) → IfErr r (λ e. (e ≡ OutOfMemory) ⊎ ((admits_whole c v ≡ false) ⊎ (is_within h v ≡ false))) →
+      Stands free (number_in sign width v) w rest → IfErr r (NoFront free (integer (bounds_of c) (held_of c h)) w)
   value_refused (Ok x) c h sign width v w rest e f q n s = tt
   value_refused (Err x) c h sign width v w rest e f q (inl m) s = subst (NoFront free (integer (bounds_of c) (held_of c h)) w) (sym m) tt
-  value_refused (Err x) c h sign width v w rest e f q (inr (inl m)) s = none_misses free (form (integer (bounds_of c) (held_of c h))) w x q (not_admitted c h v w rest m (same_form c sign width v w rest e f s))
-  value_refused (Err x) c h sign width v w rest e f q (inr (inr m)) s = none_misses free (form (integer (bounds_of c) (held_of c h))) w x q (not_held c h v w rest m (same_form c sign width v w rest e f s))
+  value_refused (Err x) c h sign width v w rest e f q (inr (inl m)) s =
+      none_misses free (form (integer (bounds_of c) (held_of c h))) w x q (not_admitted c h v w rest m (same_form c sign width v w rest e f s))
+  value_refused (Err x) c h sign width v w rest e f q (inr (inr m)) s =
+      none_misses free (form (integer (bounds_of c) (held_of c h))) w x q (not_held c h v w rest m (same_form c sign width v w rest e f s))

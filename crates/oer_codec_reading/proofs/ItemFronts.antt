@@ -1,5 +1,7 @@
 -- Octets that begin with an enumeration value.
-use Rattle.std.proofs.Common.{◌≡◌, ℕ, ◌+◌, ◌-◌, ◌*◌, ◌^◌, ◌<◌, ◌≤◌, ltb, leb, ℤ, pos, negsuc, Bool, true, false, cond, IsTrue, ◌&&◌, ◌⊎◌, inl, inr, List, [], ◌∷◌, ◌++◌, length, take, Option, Some, None, refl, ap, sym, ◌∙◌, subst, arith, length-append}
+use Rattle.std.proofs.Common.{◌≡◌, ℕ, ◌+◌, ◌-◌, ◌*◌, ◌^◌, ◌<◌, ◌≤◌, ltb, leb, ℤ, pos, negsuc, Bool, true, false, cond}
+use Rattle.std.proofs.Common.{IsTrue, ◌&&◌, ◌⊎◌, inl, inr, List, [], ◌∷◌, ◌++◌, length, take, Option, Some, None, refl}
+use Rattle.std.proofs.Common.{ap, sym, ◌∙◌, subst, arith, length-append}
 use Rattle.std.proofs.lemmas.Bool.{false≢true, le-leb, lt-ltb, leb-true, ltb-true, ltb-false, and_parts}
 use Rattle.asn1_model.specs.Numbers.{complement, signed_octets}
 use Rattle.asn1_model.specs.Form.{exactly, Reads}
@@ -60,7 +62,8 @@ module _ (free : Freedom → Bool) where
   unfolding item_form
   long_stands v k os rest h =
       varied_stands free longer_item (item_octets v) (Some k) (some_item v) os rest h.may
-      (if_stands free (leb (signed_octets v) k && leb k 127) (exactly ((128 + k) ∷ complement k v)) os rest (and_true _ _ (le-leb _ _ h.enough) (le-leb _ _ h.most)) (exactly_stands free ((128 + k) ∷ complement k v) os rest h.text))
+      (if_stands free (leb (signed_octets v) k && leb k 127) (exactly ((128 + k) ∷ complement k v)) os rest
+      (and_true _ _ (le-leb _ _ h.enough) (le-leb _ _ h.most)) (exactly_stands free ((128 + k) ∷ complement k v) os rest h.text))
 
 -- ---- which octets are the fewest
 
@@ -146,7 +149,12 @@ item_behind free v o k os mid rest e l h = elim (item_front free v os rest h) [
       let y : 128 + b.0 ≡ o = cc in
       let z : b.0 ≡ k = omega (arith, y, l) in
       let t : complement b.0 v ++ rest ≡ mid = cc in
-      record { enough = subst (λ j. signed_octets v ≤ j) z b.1.enough; text = ap (λ j. complement j v ++ rest) (sym z) ∙ t; may = subst (λ j. (Some j ≡ item_octets v) ⊎ (free longer_item ≡ true)) z b.1.may }
+      record {
+        enough = subst (λ j. signed_octets v ≤ j) z b.1.enough;
+        text = ap (λ j. complement j v ++ rest) (sym z) ∙ t;
+        may =
+            subst (λ j. (Some j ≡ item_octets v) ⊎ (free longer_item ≡ true)) z b.1.may;
+      }
 ]
 
 pub no_octets : (free : Freedom → Bool) (o : ℕ) (os mid : List ℕ) → os ≡ o ∷ mid → o ≡ 128 → NoneStands free item_form os
@@ -164,7 +172,8 @@ few_octets free o os mid e l s v rest h =
     let z = length-complement (o - 128) v in
     omega (arith, x, y, z, s)
 
-pub longer_octets : (r : EncodingRules) (o : ℕ) (os mid new w : List ℕ) → os ≡ o ∷ mid → 128 ≤ o → w ++ new ≡ mid → length w ≡ o - 128 → is_longer w ≡ true → is_basic r ≡ false → NoneStands (freedoms r) item_form os
+pub longer_octets : (r : EncodingRules) (o : ℕ) (os mid new w : List ℕ) → os ≡ o ∷ mid → 128 ≤ o → w ++ new ≡ mid → length w ≡ o - 128 →
+    is_longer w ≡ true → is_basic r ≡ false → NoneStands (freedoms r) item_form os
 longer_octets r o os mid new w e l f n g b v rest h =
     let i = item_behind (freedoms r) v o (o - 128) os mid rest e (omega arith) h in
     let q = (fronts_equal (complement (o - 128) v) w rest new (length-complement (o - 128) v ∙ sym n) (i.text ∙ sym f)).0 in
@@ -177,7 +186,8 @@ least_item : (os : List ℕ) → AreOctets os → 0 < length os → signed_octet
 least_item [] a l = absurd (omega arith)
 least_item (o ∷ os) a l = signed_octets-least o os a
 
-pub item_read : (r : EncodingRules) (o : ℕ) (os mid new w : List ℕ) → os ≡ o ∷ mid → 128 ≤ o → ¬ (o ≡ 128) → o < 256 → w ++ new ≡ mid → length w ≡ o - 128 → AreOctets w → (is_basic r ≡ true) ⊎ (is_longer w ≡ false) → Stands (freedoms r) (item_form (signed_number w)) os new
+pub item_read : (r : EncodingRules) (o : ℕ) (os mid new w : List ℕ) → os ≡ o ∷ mid → 128 ≤ o → ¬ (o ≡ 128) → o < 256 → w ++ new ≡ mid →
+    length w ≡ o - 128 → AreOctets w → (is_basic r ≡ true) ⊎ (is_longer w ≡ false) → Stands (freedoms r) (item_form (signed_number w)) os new
 item_read r o os mid new w e l d s f n a b =
     let p : 0 < length w = omega (arith, n, l, d) in
     let k : 128 + length w ≡ o = omega (arith, n, l) in

@@ -1,5 +1,7 @@
 -- Octets that begin with a length determinant, or with octets after one.
-use Rattle.std.proofs.Common.{◌≡◌, ℕ, ◌+◌, ◌^◌, ◌≤◌, ◌<◌, ◌==◌, leb, ltb, cond, Bool, true, false, ◌&&◌, ◌||◌, ◌⊎◌, inl, inr, Option, Some, None, List, [], ◌∷◌, ◌++◌, length, refl, sym, ap, ◌∙◌, subst, arith, length-append}
+use Rattle.std.proofs.Common.{◌≡◌, ℕ, ◌+◌, ◌^◌, ◌≤◌, ◌<◌, ◌==◌, leb, ltb, cond, Bool, true, false, ◌&&◌, ◌||◌, ◌⊎◌, inl}
+use Rattle.std.proofs.Common.{inr, Option, Some, None, List, [], ◌∷◌, ◌++◌, length, refl, sym, ap, ◌∙◌, subst, arith}
+use Rattle.std.proofs.Common.{length-append}
 use Rattle.std.proofs.lemmas.Bool.{false≢true, le-leb, lt-ltb, ltb-true, leb-true, eqb-true, eq-eqb, ltb-false, or_cases, and_parts}
 use Rattle.std.proofs.Math.Bool.{or-true}
 use Rattle.std.proofs.Math.Nat.{pow-le-pow_right}
@@ -60,7 +62,8 @@ module _ (free : Freedom → Bool) where
   long_stands n k os new l h =
       if_stands free (ltb n (2 ^ 64)) _ os new (lt-ltb _ _ l)
       (varied_stands free longer_length (shortest n) (Some k) (some_length n) os new h.may
-      (if_stands free (leb 1 k && leb k 127 && leb (octet_width n) k) (exactly ((128 + k) ∷ digits 256 k n)) os new (and_true _ _ (and_true _ _ (le-leb 1 k h.some) (le-leb k 127 h.most)) (le-leb _ _ h.enough)) (exactly_stands free ((128 + k) ∷ digits 256 k n) os new h.text)))
+      (if_stands free (leb 1 k && leb k 127 && leb (octet_width n) k) (exactly ((128 + k) ∷ digits 256 k n)) os new
+      (and_true _ _ (and_true _ _ (le-leb 1 k h.some) (le-leb k 127 h.most)) (le-leb _ _ h.enough)) (exactly_stands free ((128 + k) ∷ digits 256 k n) os new h.text)))
 
 -- ---- the errors of a length determinant
 
@@ -113,7 +116,8 @@ taken : (x y : Bool) → x ≡ y → (n m k : ℕ) → n ≡ m → (Some k ≡ s
 taken x y e n m k z (inr t) = ap (λ b. b || (leb 128 m && (octet_width m == k))) (sym e ∙ t)
 taken x y e n m k z (inl t) = ap (λ j. y || (leb 128 j && (octet_width j == k))) (sym z) ∙ ap (λ b. y || b) (is_long n k (ltb n 128) refl t) ∙ or-true y
 
-pub not_shortest : (r : EncodingRules) (k m : ℕ) (o new w : List ℕ) → 1 ≤ k → AreOctets o → length o ≡ k → o ++ new ≡ w → m ≡ unsigned_number o → (is_basic r || (leb 128 m && (octet_width m == k))) ≡ false → NoneStands (freedoms r) length_form ((128 + k) ∷ w)
+pub not_shortest : (r : EncodingRules) (k m : ℕ) (o new w : List ℕ) → 1 ≤ k → AreOctets o → length o ≡ k → o ++ new ≡ w → m ≡ unsigned_number o →
+    (is_basic r || (leb 128 m && (octet_width m == k))) ≡ false → NoneStands (freedoms r) length_form ((128 + k) ∷ w)
 not_shortest r k m o new w s a e d u b n rest h =
     let f = long_of (freedoms r) n k w rest s h in
     let t : digits 256 k n ++ rest ≡ o ++ new = (let t = f.1.text in cc) ∙ sym d in
@@ -125,13 +129,15 @@ may_be_long : (n k : ℕ) (t : Bool) → ltb n 128 ≡ t → (leb 128 n && (octe
 may_be_long n k true e h = let p = and_parts (leb 128 n) (octet_width n == k) h in let a = leb-true 128 n p.0 in let b = ltb-true n 128 e in absurd (omega arith)
 may_be_long n k false e h = let p = and_parts (leb 128 n) (octet_width n == k) h in ap Some (sym (eqb-true (octet_width n) k p.1))
 
-pub read_long : (r : EncodingRules) (k m : ℕ) (o new w : List ℕ) → 1 ≤ k → k ≤ 127 → AreOctets o → length o ≡ k → o ++ new ≡ w → m ≡ unsigned_number o → m < 2 ^ 64 → (is_basic r || (leb 128 m && (octet_width m == k))) ≡ true → Stands (freedoms r) (length_form m) ((128 + k) ∷ w) new
+pub read_long : (r : EncodingRules) (k m : ℕ) (o new w : List ℕ) → 1 ≤ k → k ≤ 127 → AreOctets o → length o ≡ k → o ++ new ≡ w →
+    m ≡ unsigned_number o → m < 2 ^ 64 → (is_basic r || (leb 128 m && (octet_width m == k))) ≡ true → Stands (freedoms r) (length_form m) ((128 + k) ∷ w) new
 read_long r k m o new w s f a e d u l b =
     let g : digits 256 k m ≡ o = ap (λ j. digits 256 j m) (sym e) ∙ ap (digits 256 (length o)) u ∙ digits-unsigned o a in
     let x : m < 256 ^ k = let y = unsigned-lt o a in subst (λ j. m < 256 ^ j) e (subst (λ j. j < 256 ^ length o) (sym u) y) in
     let h : octet_width m ≤ k = octets-least m k (octet_width m) (octet_width-octets m) x in
     let t : (128 + k) ∷ (digits 256 k m ++ new) ≡ (128 + k) ∷ w = ap (λ i. (128 + k) ∷ (i ++ new)) g ∙ ap (λ i. (128 + k) ∷ i) d in
-    long_stands (freedoms r) m k ((128 + k) ∷ w) new l (record { some = s; most = f; enough = h; text = t; may = elim (or_cases (is_basic r) _ b) [ inl y ↦ inr (longer_length_is_basic r ∙ y) | inr y ↦ inl (may_be_long m k (ltb m 128) refl y) ] })
+    long_stands (freedoms r) m k ((128 + k) ∷ w) new l
+    (record { some = s; most = f; enough = h; text = t; may = elim (or_cases (is_basic r) _ b) [ inl y ↦ inr (longer_length_is_basic r ∙ y) | inr y ↦ inl (may_be_long m k (ltb m 128) refl y) ] })
 
 -- ---- one length determinant
 
@@ -190,7 +196,8 @@ module _ (free : Freedom → Bool) where
       absurd (omega (arith, a, x, y, l))
 
   pub read_counted : (n : ℕ) (os w mid rest : List ℕ) → AreOctets os → Stands free (length_form n) w mid → os ++ rest ≡ mid → length os ≡ n → Stands free (counted os) w rest
-  read_counted n os w mid rest a h e l = counted_stands os w rest (each_octet os a) (subst (λ j. Stands free (length_form j) w (os ++ rest)) (sym l) (subst (λ m. Stands free (length_form n) w m) (sym e) h))
+  read_counted n os w mid rest a h e l = counted_stands os w rest (each_octet os a)
+      (subst (λ j. Stands free (length_form j) w (os ++ rest)) (sym l) (subst (λ m. Stands free (length_form n) w m) (sym e) h))
 
 -- ---- the errors of the first octet of a length determinant
 

@@ -1,5 +1,7 @@
 -- The indices of tags and of items in tables.
-use Rattle.std.proofs.Common.{◌≡◌, ℕ, zero, suc, ◌+◌, ◌-◌, ◌^◌, ◌<◌, ltb, ℤ, pos, negsuc, ◌-ℤ◌, Bool, true, false, cond, List, [], ◌∷◌, ◌++◌, length, map, take, get_or, Option, Some, None, option_map, refl, ap, sym, ◌∙◌, arith}
+use Rattle.std.proofs.Common.{◌≡◌, ℕ, zero, suc, ◌+◌, ◌-◌, ◌^◌, ◌<◌, ltb, ℤ, pos, negsuc, ◌-ℤ◌, Bool, true, false, cond}
+use Rattle.std.proofs.Common.{List, [], ◌∷◌, ◌++◌, length, map, take, get_or, Option, Some, None, option_map, refl, ap}
+use Rattle.std.proofs.Common.{sym, ◌∙◌, arith}
 use Rattle.std.proofs.lemmas.List.{take_more, map-append}
 use Rattle.std.proofs.lemmas.Bool.{and_parts, eqb-true, lt-ltb, lt-leb}
 use Rattle.std.proofs.Common.{w64, to_z, of_z}
@@ -32,7 +34,8 @@ item_none v (c ∷ ds) d e f =
     let p = none_first (same_number v c) (item_index v ds) e in
     ap (λ b. cond b (Some zero) (option_map suc (item_index v (ds ++ d ∷ [])))) p.0 ∙ ap (option_map suc) (item_none v ds d p.1 f)
 
-pub items_more : {X : Type 0} (f : X → ℤ) (v : ℤ) (xs : List X) (i : ℕ) (x : X) → i < length xs → x ≡ get_or xs i x → item_index v (map f (take i xs)) ≡ None → same_number v (f x) ≡ false → item_index v (map f (take (i + 1) xs)) ≡ None
+pub items_more : {X : Type 0} (f : X → ℤ) (v : ℤ) (xs : List X) (i : ℕ) (x : X) → i < length xs → x ≡ get_or xs i x →
+    item_index v (map f (take i xs)) ≡ None → same_number v (f x) ≡ false → item_index v (map f (take (i + 1) xs)) ≡ None
 items_more f v xs i x l e g h =
     ap (λ ys. item_index v (map f ys)) (take_more xs i x l)
     ∙ ap (λ y. item_index v (map f (take i xs ++ y ∷ []))) (sym e)
@@ -73,7 +76,8 @@ each_more : (us : List Tag) (u : Tag) → list_all is_in_32_bits us ≡ true →
 each_more [] u e f = and_true _ _ f refl
 each_more (v ∷ us) u e f = let p = and_parts (is_in_32_bits v) (list_all is_in_32_bits us) e in and_true _ _ p.0 (each_more us u p.1 f)
 
-pub numbers_more : {X : Type 0} (f : X → Tag) (xs : List X) (i : ℕ) (d : X) (n : ℕ) → i < length xs → n ≡ (f (get_or xs i d)).number → n < 2 ^ 32 → list_all is_in_32_bits (map f (take i xs)) ≡ true → list_all is_in_32_bits (map f (take (i + 1) xs)) ≡ true
+pub numbers_more : {X : Type 0} (f : X → Tag) (xs : List X) (i : ℕ) (d : X) (n : ℕ) → i < length xs → n ≡ (f (get_or xs i d)).number → n < 2 ^ 32 →
+    list_all is_in_32_bits (map f (take i xs)) ≡ true → list_all is_in_32_bits (map f (take (i + 1) xs)) ≡ true
 numbers_more f xs i d n l e s g =
     ap (λ ys. list_all is_in_32_bits (map f ys)) (take_more xs i d l)
     ∙ ap (list_all is_in_32_bits) (map-append f (take i xs) (get_or xs i d ∷ []))

@@ -116,24 +116,28 @@ module _ (free : Freedom → Bool) where
   sized_counted os w rest h = counted_is os w rest h
 
   -- ---- OCTET STRING
-  octet_string_front : (z : Size) (held : Counts) (v : Value) (w rest : List ℕ) → Stands free (form (octet_string z held) v) w rest → (os : List ℕ) × (v ≡ octet_list os) × (admits z held (length os) ≡ true) × Stands free (sized (one_size z) os) w rest
+  octet_string_front : (z : Size) (held : Counts) (v : Value) (w rest : List ℕ) → Stands free (form (octet_string z held) v) w rest → (os : List ℕ) ×
+      (v ≡ octet_list os) × (admits z held (length os) ≡ true) × Stands free (sized (one_size z) os) w rest
   unfolding form Reads
   octet_string_front z held (octet_list os) w rest h =
       let i = if_front free (admits z held (length os)) (octets_form (is_fixed z) os) w rest h in
       (os, refl, i.0, to_sized (is_fixed z) z.counts.low os w rest (λ e. one_length z held (length os) e i.0) i.1)
   octet_string_front z held v w rest h = absurd h.2
 
-  pub octet_string_stands : (z : Size) (held : Counts) (size : Option ℕ) (n : ℕ) (os w rest : List ℕ) → size ≡ one_size z → n ≡ length os → admits z held n ≡ true → Stands free (sized size os) w rest → Stands free (form (octet_string z held) (octet_list os)) w rest
+  pub octet_string_stands : (z : Size) (held : Counts) (size : Option ℕ) (n : ℕ) (os w rest : List ℕ) → size ≡ one_size z → n ≡ length os →
+      admits z held n ≡ true → Stands free (sized size os) w rest → Stands free (form (octet_string z held) (octet_list os)) w rest
   unfolding form
   octet_string_stands z held size n os w rest e l a h =
-      if_stands free (admits z held (length os)) (octets_form (is_fixed z) os) w rest (ap (admits z held) (sym l) ∙ a) (from_sized (is_fixed z) z.counts.low os w rest (subst (λ s. Stands free (sized s os) w rest) e h))
+      if_stands free (admits z held (length os)) (octets_form (is_fixed z) os) w rest (ap (admits z held) (sym l) ∙ a)
+      (from_sized (is_fixed z) z.counts.low os w rest (subst (λ s. Stands free (sized s os) w rest) e h))
 
   pub no_sized : (z : Size) (held : Counts) (size : Option ℕ) (w : List ℕ) → size ≡ one_size z → NoneStands free (sized size) w → NoneStands free (form (octet_string z held)) w
   no_sized z held size w e n v rest h =
       let f = octet_string_front z held v w rest h in
       n f.0 rest (subst (λ s. Stands free (sized s f.0) w rest) (sym e) f.3)
 
-  pub not_admitted : (z : Size) (held : Counts) (size : Option ℕ) (n : ℕ) (os w mid : List ℕ) → size ≡ one_size z → n ≡ length os → admits z held n ≡ false → Stands free (sized size os) w mid → NoneStands free (form (octet_string z held)) w
+  pub not_admitted : (z : Size) (held : Counts) (size : Option ℕ) (n : ℕ) (os w mid : List ℕ) → size ≡ one_size z → n ≡ length os →
+      admits z held n ≡ false → Stands free (sized size os) w mid → NoneStands free (form (octet_string z held)) w
   not_admitted z held size n os w mid e l a h v rest s =
       let f = octet_string_front z held v w rest s in
       let o = sized_one size os f.0 w mid rest h (subst (λ s. Stands free (sized s f.0) w rest) (sym e) f.3) in

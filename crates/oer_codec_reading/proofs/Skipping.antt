@@ -33,7 +33,12 @@ module _ (free : Oer.Freedom → Bool) where
 
   -- one that is present
   pub skip_present : (us : List Bool) (l os mid rest : List ℕ) → Stands free (Oer.counted l) os mid → Skips free us mid rest → Skips free (true ∷ us) os rest
-  skip_present us l os mid rest h s = (Some l ∷ s.0, ap (λ l. true ∷ l) s.1, join free (Oer.counted l) (joined (present_ones (unknown_forms s.0))) (joined_moves free (unknown_forms s.0) (each_unknown_moves free s.0)) os mid rest (as_front free (Oer.counted l) os mid h) s.2)
+  skip_present us l os mid rest h s = (
+    Some l ∷ s.0,
+    ap (λ l. true ∷ l) s.1,
+    join free (Oer.counted l) (joined (present_ones (unknown_forms s.0)))
+        (joined_moves free (unknown_forms s.0) (each_unknown_moves free s.0)) os mid rest (as_front free (Oer.counted l) os mid h) s.2,
+  )
 
   present_first : (us : List Bool) (os rest : List ℕ) → Skips free (true ∷ us) os rest → (l : List ℕ) × (mid : List ℕ) × Front free (Oer.counted l) os mid × Skips free us mid rest
   present_first us os rest ([], e, f) = cc e
@@ -49,7 +54,11 @@ module _ (free : Oer.Freedom → Bool) where
       subst (λ m. Skips free us m rest) q p.3
 
   pub none_present : (us : List Bool) (os : List ℕ) (e : DecodeError) → Misses free Oer.counted os e → SkipsNone free (true ∷ us) os e
-  none_present us os e m = record { none = λ i rest s. let p = present_first us os rest s in missed free Oer.counted os e m i p.0 p.1 (as_stands free (Oer.counted p.0) os p.1 p.2); fresh = not_before free Oer.counted os e m }
+  none_present us os e m = record {
+    none = λ i rest s. let p = present_first us os rest s in
+        missed free Oer.counted os e m i p.0 p.1 (as_stands free (Oer.counted p.0) os p.1 p.2);
+    fresh = not_before free Oer.counted os e m;
+  }
 
 pub all_taken : (l : List ℕ) → length l < 2 ^ 60 → take (2 ^ 60 - 1) l ≡ l
 all_taken l h = take_all (2 ^ 60 - 1) l (omega (arith, h))

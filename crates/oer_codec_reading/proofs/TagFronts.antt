@@ -33,7 +33,12 @@ module _ (free : Freedom → Bool) where
       go : (e : Bool) → (e ≡ leb 63 t.number) ⊎ IsTrue (free long_tag) → Stands free (either_tag t e) os rest → ((t.number < 63) × ((t.class * 64 + t.number) ∷ rest ≡ os)) ⊎ Long free t os rest
       go true a s =
           let i = if_front free (leb 1 t.number) (exactly ((t.class * 64 + 63) ∷ groups_of_seven t.number)) os rest s in
-          inr (record { some = leb-true _ _ i.0; may = elim a [ inl e ↦ inl (leb-true 63 t.number (sym e)) | inr e ↦ inr e ]; text = exactly_front free ((t.class * 64 + 63) ∷ groups_of_seven t.number) os rest i.1 })
+          inr (record {
+            some = leb-true _ _ i.0;
+            may = elim a [ inl e ↦ inl (leb-true 63 t.number (sym e)) | inr e ↦ inr e ];
+            text =
+                exactly_front free ((t.class * 64 + 63) ∷ groups_of_seven t.number) os rest i.1;
+          })
       go false a s =
           let i = if_front free (ltb t.number 63) (exactly ((t.class * 64 + t.number) ∷ [])) os rest s in
           inl (ltb-true _ _ i.0, exactly_front free ((t.class * 64 + t.number) ∷ []) os rest i.1)
@@ -49,7 +54,8 @@ module _ (free : Freedom → Bool) where
   unfolding tag_form
   long_stands t os rest h =
       varied_stands free long_tag (leb 63 t.number) true (either_tag t) os rest (elim h.may [ inl e ↦ inl (sym (le-leb 63 t.number e)) | inr e ↦ inr e ])
-      (if_stands free (leb 1 t.number) (exactly ((t.class * 64 + 63) ∷ groups_of_seven t.number)) os rest (le-leb _ _ h.some) (exactly_stands free ((t.class * 64 + 63) ∷ groups_of_seven t.number) os rest h.text))
+      (if_stands free (leb 1 t.number) (exactly ((t.class * 64 + 63) ∷ groups_of_seven t.number)) os rest (le-leb _ _ h.some)
+      (exactly_stands free ((t.class * 64 + 63) ∷ groups_of_seven t.number) os rest h.text))
 
 -- ---- what read_tag returns
 
@@ -68,7 +74,8 @@ module _ (r : EncodingRules) where
       let f : t.class * 64 + t.number ≡ o = omega (arith, c, n) in
       low_stands (freedoms r) t os new (omega (arith, n, l)) (ap (λ x. x ∷ new) f ∙ sym e)
 
-  pub high_tag : (t : Tag) (o : ℕ) (os mid new : List ℕ) → os ≡ o ∷ mid → t.class ≡ o / 64 → 63 ≤ o % 64 → number_behind 0 mid ≡ Some (t.number, new) → (63 ≤ t.number) ⊎ (is_basic r ≡ true) → Stands (freedoms r) (tag_form t) os new
+  pub high_tag : (t : Tag) (o : ℕ) (os mid new : List ℕ) → os ≡ o ∷ mid → t.class ≡ o / 64 → 63 ≤ o % 64 →
+      number_behind 0 mid ≡ Some (t.number, new) → (63 ≤ t.number) ⊎ (is_basic r ≡ true) → Stands (freedoms r) (tag_form t) os new
   high_tag t o os mid new e c l n b =
       let q = number_read mid 0 t.number new n in
       let f : t.class * 64 + 63 ≡ o = omega (arith, c, l) in
@@ -85,7 +92,8 @@ module _ (r : EncodingRules) where
   ]
 
   -- if the first octet has six one bits, a tag that comes first has the number that is read after it
-  in_groups : (t : Tag) (o : ℕ) (os mid rest : List ℕ) → os ≡ o ∷ mid → 63 ≤ o % 64 → Stands (freedoms r) (tag_in t) os rest → (number_behind 0 mid ≡ Some (t.number, rest)) × ((63 ≤ t.number) ⊎ (is_basic r ≡ true))
+  in_groups : (t : Tag) (o : ℕ) (os mid rest : List ℕ) → os ≡ o ∷ mid → 63 ≤ o % 64 → Stands (freedoms r) (tag_in t) os rest →
+      (number_behind 0 mid ≡ Some (t.number, rest)) × ((63 ≤ t.number) ⊎ (is_basic r ≡ true))
   in_groups t o os mid rest e l h =
       let i = if_front (freedoms r) (ltb t.number (2 ^ 32)) (tag_form t) os rest h in
       elim (tag_front (freedoms r) t os rest i.1) [

@@ -1,5 +1,7 @@
 -- Octets that begin with an INTEGER.
-use Rattle.std.proofs.Common.{◌≡◌, ℕ, zero, suc, ◌+◌, ◌*◌, ◌^◌, ◌≤◌, ◌<◌, ◌==◌, leb, ltb, not, ℤ, pos, negsuc, Bool, true, false, ◌||◌, ◌⊎◌, inl, inr, Option, Some, None, List, [], ◌∷◌, ◌++◌, length, refl, sym, ap, ◌∙◌, subst, arith}
+use Rattle.std.proofs.Common.{◌≡◌, ℕ, zero, suc, ◌+◌, ◌*◌, ◌^◌, ◌≤◌, ◌<◌, ◌==◌, leb, ltb, not, ℤ, pos, negsuc, Bool}
+use Rattle.std.proofs.Common.{true, false, ◌||◌, ◌⊎◌, inl, inr, Option, Some, None, List, [], ◌∷◌, ◌++◌, length, refl}
+use Rattle.std.proofs.Common.{sym, ap, ◌∙◌, subst, arith}
 use Rattle.std.specs.Prelude.{is_some, IfSome}
 use Rattle.std.proofs.lemmas.Bool.{false≢true, leb-true, le-leb, ltb-true, eqb-true, or_cases, cases_lt, eqb-false}
 use Rattle.asn1_model.specs.Numbers.{digits, complement, octet_width, least_octets, signed_octets}
@@ -13,7 +15,7 @@ use Rattle.asn1_values_natives.proofs.Widths.{octets-least, octet_width-octets, 
 use Rattle.oer_codec_reading.specs.declared.rules.EncodingRules.{EncodingRules}
 use Rattle.oer_codec_reading.specs.Fronts.{freedoms, is_basic, Stands, NoneStands}
 use Rattle.oer_codec_reading.specs.Sized.{sized}
-use Rattle.oer_codec_reading.specs.Whole.{count_in, number_in, has_spare}
+use Rattle.oer_codec_reading.specs.Integers.{count_in, number_in, has_spare}
 use Rattle.oer_codec_reading.proofs.Freedoms.{longer_number_is_basic}
 use Rattle.oer_codec_reading.proofs.Fronts.{exactly_stands, exactly_front, if_stands, if_front, varied_stands, varied_front}
 use Rattle.oer_codec_reading.proofs.LengthFronts.{octets_hold, are_octets}
@@ -46,7 +48,8 @@ fewest_signed [] a l e = absurd (omega arith)
 fewest_signed (o ∷ os) a l e = signed_octets-fewest o os a e
 
 zero_front : (b : ℕ) (os : List ℕ) → AreOctets (b ∷ os) → octet_width (0 * 256 ^ length (b ∷ os) + unsigned_number (b ∷ os)) ≤ length (b ∷ os)
-zero_front b os a = let e : 0 * 256 ^ length (b ∷ os) + unsigned_number (b ∷ os) ≡ unsigned_number (b ∷ os) = omega arith in subst (λ n. octet_width n ≤ length (b ∷ os)) (sym e) (digits_of (b ∷ os) a).0
+zero_front b os a = let e : 0 * 256 ^ length (b ∷ os) + unsigned_number (b ∷ os) ≡ unsigned_number (b ∷ os) = omega arith in
+    subst (λ n. octet_width n ≤ length (b ∷ os)) (sym e) (digits_of (b ∷ os) a).0
 
 not_spare : (os : List ℕ) → AreOctets os → length os ≡ least_octets (unsigned_number os) → has_spare false os ≡ false
 not_spare [] a e = refl
@@ -123,7 +126,8 @@ module _ (free : Freedom → Bool) where
   number_front false None (negsuc n) w rest h = absurd h.2
   number_front false (Some k) (pos n) w rest h =
       let i = if_front free (leb (octet_width n) k) (exactly (digits 256 k n)) w rest h in
-      fixed_front false k (pos n) (digits 256 k n) w rest (octets-digits k n) (length-digits k n) (ap pos (unsigned-digits k n (octets_hold n k (leb-true _ _ i.0)))) (exactly_front free (digits 256 k n) w rest i.1)
+      fixed_front false k (pos n) (digits 256 k n) w rest (octets-digits k n) (length-digits k n)
+      (ap pos (unsigned-digits k n (octets_hold n k (leb-true _ _ i.0)))) (exactly_front free (digits 256 k n) w rest i.1)
   number_front false (Some k) (negsuc n) w rest h = let i = if_front free (leb (octet_width n) k) _ w rest h in absurd i.1.2
 
   -- The octets begin with at most one number.
@@ -134,23 +138,28 @@ module _ (free : Freedom → Bool) where
       let o = sized_one free width a.octets b.octets w r s a.stand b.stand in
       (sym a.number ∙ ap (own_number sign) o.0 ∙ b.number, o.1)
 
-  signed_stands : (os w rest : List ℕ) → AreOctets os → 0 < length os → Stands free (counted os) w rest → (is_padded os ≡ false) ⊎ (free longer_number ≡ true) → Stands free (signed (signed_number os)) w rest
+  signed_stands : (os w rest : List ℕ) → AreOctets os → 0 < length os → Stands free (counted os) w rest →
+      (is_padded os ≡ false) ⊎ (free longer_number ≡ true) → Stands free (signed (signed_number os)) w rest
   unfolding signed
   signed_stands os w rest a l h p =
       let v : ℤ = signed_number os in
       let c = complement_of os a l in
-      varied_stands free longer_number (signed_octets v) (length os) (λ k. only_if (leb (signed_octets v) k) (counted (complement k v))) w rest (elim p [ inl e ↦ inl (sym (fewest_signed os a l e)) | inr t ↦ inr t ])
+      varied_stands free longer_number (signed_octets v) (length os) (λ k. only_if (leb (signed_octets v) k) (counted (complement k v))) w rest
+      (elim p [ inl e ↦ inl (sym (fewest_signed os a l e)) | inr t ↦ inr t ])
       (if_stands free (leb (signed_octets v) (length os)) (counted (complement (length os) v)) w rest (le-leb _ _ c.0) (subst (λ x. Stands free (counted x) w rest) (sym c.1) h))
 
-  unsigned_stands : (os w rest : List ℕ) → AreOctets os → 0 < length os → Stands free (counted os) w rest → (has_spare false os ≡ false) ⊎ (free longer_number ≡ true) → Stands free (unsigned (unsigned_number os)) w rest
+  unsigned_stands : (os w rest : List ℕ) → AreOctets os → 0 < length os → Stands free (counted os) w rest →
+      (has_spare false os ≡ false) ⊎ (free longer_number ≡ true) → Stands free (unsigned (unsigned_number os)) w rest
   unfolding unsigned
   unsigned_stands os w rest a l h p =
       let n : ℕ = unsigned_number os in
       let c = digits_of os a in
-      varied_stands free longer_number (least_octets n) (length os) (λ k. only_if (leb (least_octets n) k) (counted (digits 256 k n))) w rest (elim p [ inl e ↦ inl (shortest_of os a l e) | inr t ↦ inr t ])
+      varied_stands free longer_number (least_octets n) (length os) (λ k. only_if (leb (least_octets n) k) (counted (digits 256 k n))) w rest
+      (elim p [ inl e ↦ inl (shortest_of os a l e) | inr t ↦ inr t ])
       (if_stands free (leb (least_octets n) (length os)) (counted (digits 256 (length os) n)) w rest (le-leb _ _ (least_of os a l)) (subst (λ x. Stands free (counted x) w rest) (sym c.1) h))
 
-  pub number_stands : (sign : Bool) (width : Option ℕ) (os w rest : List ℕ) → 0 < length os → Stands free (sized width os) w rest → (width ≡ None → (has_spare sign os ≡ false) ⊎ (free longer_number ≡ true)) → Stands free (number_in sign width (own_number sign os)) w rest
+  pub number_stands : (sign : Bool) (width : Option ℕ) (os w rest : List ℕ) → 0 < length os → Stands free (sized width os) w rest →
+      (width ≡ None → (has_spare sign os ≡ false) ⊎ (free longer_number ≡ true)) → Stands free (number_in sign width (own_number sign os)) w rest
   unfolding number_in
   number_stands true None os w rest l h p = signed_stands os w rest (are_octets os (sized_octets free None os w rest h)) l (sized_counted free os w rest h) (p refl)
   number_stands false None os w rest l h p = unsigned_stands os w rest (are_octets os (sized_octets free None os w rest h)) l (sized_counted free os w rest h) (p refl)
@@ -159,13 +168,15 @@ module _ (free : Freedom → Bool) where
       let t = sized_text free k os w rest h in
       let c = complement_of os a l in
       let e : complement k (signed_number os) ≡ os = ap (λ j. complement j (signed_number os)) (sym t.0) ∙ c.1 in
-      if_stands free (leb (signed_octets (signed_number os)) k) (exactly (complement k (signed_number os))) w rest (le-leb _ _ (subst (λ j. signed_octets (signed_number os) ≤ j) t.0 c.0)) (exactly_stands free (complement k (signed_number os)) w rest (ap (λ x. x ++ rest) e ∙ t.1))
+      if_stands free (leb (signed_octets (signed_number os)) k) (exactly (complement k (signed_number os))) w rest
+      (le-leb _ _ (subst (λ j. signed_octets (signed_number os) ≤ j) t.0 c.0)) (exactly_stands free (complement k (signed_number os)) w rest (ap (λ x. x ++ rest) e ∙ t.1))
   number_stands false (Some k) os w rest l h p =
       let a = are_octets os (sized_octets free (Some k) os w rest h) in
       let t = sized_text free k os w rest h in
       let c = digits_of os a in
       let e : digits 256 k (unsigned_number os) ≡ os = ap (λ j. digits 256 j (unsigned_number os)) (sym t.0) ∙ c.1 in
-      if_stands free (leb (octet_width (unsigned_number os)) k) (exactly (digits 256 k (unsigned_number os))) w rest (le-leb _ _ (subst (λ j. octet_width (unsigned_number os) ≤ j) t.0 c.0)) (exactly_stands free (digits 256 k (unsigned_number os)) w rest (ap (λ x. x ++ rest) e ∙ t.1))
+      if_stands free (leb (octet_width (unsigned_number os)) k) (exactly (digits 256 k (unsigned_number os))) w rest
+      (le-leb _ _ (subst (λ j. octet_width (unsigned_number os) ≤ j) t.0 c.0)) (exactly_stands free (digits 256 k (unsigned_number os)) w rest (ap (λ x. x ++ rest) e ∙ t.1))
 
 -- ---- what read_number returns
 
@@ -183,7 +194,8 @@ module _ (r : EncodingRules) (sign : Bool) (width : Option ℕ) (w : List ℕ) w
       let o = sized_one (freedoms r) width os f.octets w mid rest h f.stand in
       let n : length os ≡ 0 = eqb-true (length os) 0 (sym e) in go width refl (ap length (sym o.0) ∙ n) f.some q h
     where
-      go : (t : Option ℕ) → width ≡ t → length (number_front (freedoms r) sign width v w rest s).octets ≡ 0 → (width ≡ None → 0 < length (number_front (freedoms r) sign width v w rest s).octets) → IfSome t (λ k. 1 ≤ k) → Stands (freedoms r) (sized t os) w mid → ⊥
+      go : (t : Option ℕ) → width ≡ t → length (number_front (freedoms r) sign width v w rest s).octets ≡ 0 →
+          (width ≡ None → 0 < length (number_front (freedoms r) sign width v w rest s).octets) → IfSome t (λ k. 1 ≤ k) → Stands (freedoms r) (sized t os) w mid → ⊥
       go None i l p q h = let x = p i in absurd (omega (arith, l, x))
       go (Some k) i l p q h = let x = (sized_text (freedoms r) k os w mid h).0 in let n : length os ≡ 0 = eqb-true (length os) 0 (sym e) in absurd (omega (arith, x, q, n))
 
@@ -197,7 +209,8 @@ module _ (r : EncodingRules) (sign : Bool) (width : Option ℕ) (w : List ℕ) w
       is_not' true e = cc
       is_not' false e = refl
 
-  pub number_read : (os rest : List ℕ) → 0 < length os → Stands (freedoms r) (sized width os) w rest → (is_some width || is_basic r || not (has_spare sign os)) ≡ true → Stands (freedoms r) (number_in sign width (own_number sign os)) w rest
+  pub number_read : (os rest : List ℕ) → 0 < length os → Stands (freedoms r) (sized width os) w rest →
+      (is_some width || is_basic r || not (has_spare sign os)) ≡ true → Stands (freedoms r) (number_in sign width (own_number sign os)) w rest
   number_read os rest l h b = number_stands (freedoms r) sign width os w rest l h (taken os b)
 
   pub not_taken : (os mid : List ℕ) → Stands (freedoms r) (sized width os) w mid → (is_some width || is_basic r || not (has_spare sign os)) ≡ false → NoneStands (freedoms r) (number_in sign width) w

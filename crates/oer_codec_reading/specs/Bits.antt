@@ -1,4 +1,4 @@
--- Bits, of a given number.
+-- BIT STRING of a fixed size, or after a length determinant (X.696 13).
 use Rattle.std.specs.Prelude.{ℕ, ◌==◌, Bool, false, List, length, Option, Some, None}
 use Rattle.asn1_model.specs.Form.{only_if}
 use Rattle.asn1_model.specs.Oer.{OctetForm, bit_string_form, bits_form}

@@ -8,9 +8,9 @@ width true = 2
 width false = 1
 
 -- The octets of characters.
-abbrev pub spelled : Bool → List ℕ → List ℕ
-spelled true cs = flat_map (digits 256 2) cs
-spelled false cs = cs
+abbrev pub octets_of_characters : Bool → List ℕ → List ℕ
+octets_of_characters true cs = flat_map (digits 256 2) cs
+octets_of_characters false cs = cs
 
 -- Each two octets in sequence as one number.
 abbrev pub pairs : List ℕ → List ℕ

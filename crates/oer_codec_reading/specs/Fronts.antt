@@ -1,4 +1,4 @@
--- What the unread octets begin with, and why a reader refuses them.
+-- The rules of a reader, and its freedoms; with which forms the unread octets begin, and why a reader refuses them.
 use Rattle.std.specs.Prelude.{◌≡◌, ℕ, ◌++◌, Bool, true, false, List}
 use Rattle.asn1_model.specs.Schema.{Schema}
 use Rattle.asn1_model.specs.Value.{Value}
@@ -25,8 +25,8 @@ abbrev pub Stands : (Freedom → Bool) → OctetForm → List ℕ → List ℕ �
 Stands free x os rest = (w : List ℕ) × (w ++ rest ≡ os) × Reads free x 0 w
 
 -- The octets begin with an encoding of a value of a type.
-abbrev pub Front : (Freedom → Bool) → Schema → Value → List ℕ → List ℕ → Type 0
-Front free s v os rest = Stands free (form s v) os rest
+abbrev pub FrontOf : (Freedom → Bool) → Schema → Value → List ℕ → List ℕ → Type 0
+FrontOf free s v os rest = Stands free (form s v) os rest
 
 -- The octets do not begin with any of some forms, whatever follows.
 abbrev pub NoneStands : {X : Type 0} → (Freedom → Bool) → (X → OctetForm) → List ℕ → Type 0

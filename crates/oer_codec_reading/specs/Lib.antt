@@ -1,6 +1,6 @@
 pub mod Fronts
 pub mod Sized
-pub mod Whole
+pub mod Integers
 pub mod Bits
 pub mod Characters
 pub mod Tags

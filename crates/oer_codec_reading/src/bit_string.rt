@@ -8,7 +8,7 @@ ghost use Rattle.asn1_model.specs.Value as Asn1Value;
 ghost use Rattle.asn1_schema_constraints.specs.Bounds.{counts_of};
 ghost use Rattle.asn1_schema_constraints.specs.Terms.{sizes_of};
 ghost use Rattle.asn1_values_bits.specs.BitStr.{bits_of};
-ghost use Rattle.oer_codec_reading.specs.Fronts.{freedoms, is_basic, Front, Misses, NoFront, Stands};
+ghost use Rattle.oer_codec_reading.specs.Fronts.{freedoms, is_basic, FrontOf, Misses, NoFront, Stands};
 ghost use Rattle.oer_codec_reading.specs.Bits.{bits_in, sized_bits};
 
 use crate::length::read_length;
@@ -148,7 +148,7 @@ pub fn read_bit_string(
     constraints: &Constraints,
     held: Bounded<usize>,
 ) -> Result<BitString, DecodeError>
-    ensures ok { IfOk result (λ x. Front (freedoms rules)
+    ensures ok { IfOk result (λ x. FrontOf (freedoms rules)
         (Asn1.bit_string (sizes_of constraints.now.size) (counts_of held)) (Asn1Value.bit_list x) cursor.old
         cursor.new) }
     ensures only { IfErr result (NoFront (freedoms rules)

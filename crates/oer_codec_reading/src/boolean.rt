@@ -2,7 +2,7 @@
 ghost use Rattle.std.specs.Prelude.{◌≡◌, ◌⊎◌, true, false, IfOk, IfErr, OnOk};
 ghost use Rattle.asn1_model.specs.Schema as Asn1;
 ghost use Rattle.asn1_model.specs.Value as Asn1Value;
-ghost use Rattle.oer_codec_reading.specs.Fronts.{freedoms, is_basic, Front, NoFront};
+ghost use Rattle.oer_codec_reading.specs.Fronts.{freedoms, is_basic, FrontOf, NoFront};
 
 use crate::{Cursor, EncodingRules};
 use asn1_schema_errors::DecodeError;
@@ -32,7 +32,7 @@ fn truth_of(octet: u8) -> bool
 /// `Incomplete` if there is no octet, and `InvalidBool` if it is neither 0x00 nor 0xFF, in COER.
 #[inline(always)]
 pub fn read_boolean(cursor: &mut Cursor<'_>, rules: EncodingRules) -> Result<bool, DecodeError>
-    ensures ok { IfOk result (λ b. Front (freedoms rules) Asn1.boolean (Asn1Value.truth b) cursor.old cursor.new) }
+    ensures ok { IfOk result (λ b. FrontOf (freedoms rules) Asn1.boolean (Asn1Value.truth b) cursor.old cursor.new) }
     ensures only { IfErr result (NoFront (freedoms rules) Asn1.boolean cursor.old) }
     ensures no_memory { IfErr result (λ e. e ≡ DecodeError.OutOfMemory → ⊥) }
 {
@@ -46,7 +46,7 @@ pub fn read_boolean(cursor: &mut Cursor<'_>, rules: EncodingRules) -> Result<boo
 /// Reads a NULL (X.696 15), which has no octets.
 #[inline(always)]
 pub fn read_null(cursor: &mut Cursor<'_>, rules: EncodingRules) -> Result<(), DecodeError>
-    ensures ok { OnOk result (Front (freedoms rules) Asn1.null Asn1Value.nothing cursor.old cursor.new) }
+    ensures ok { OnOk result (FrontOf (freedoms rules) Asn1.null Asn1Value.nothing cursor.old cursor.new) }
     ensures only { IfErr result (NoFront (freedoms rules) Asn1.null cursor.old) }
     ensures no_memory { IfErr result (λ e. e ≡ DecodeError.OutOfMemory → ⊥) }
 {

@@ -5,7 +5,7 @@ ghost use Rattle.asn1_model.specs.Schema.{any_count};
 ghost use Rattle.asn1_model.specs.Value as Asn1Value;
 ghost use Rattle.asn1_schema_constraints.specs.Terms.{sizes_of, alphabet_of};
 ghost use Rattle.asn1_values_alphabets.specs.Permitted.{permits_all};
-ghost use Rattle.oer_codec_reading.specs.Fronts.{freedoms, Front, Misses, NoFront, Stands};
+ghost use Rattle.oer_codec_reading.specs.Fronts.{freedoms, FrontOf, Misses, NoFront, Stands};
 ghost use Rattle.oer_codec_reading.specs.Sized.{sized};
 ghost use Rattle.oer_codec_reading.specs.Characters as Characters;
 
@@ -109,7 +109,7 @@ pub fn read_characters<S: StaticPermittedAlphabet>(
     rules: EncodingRules,
     constraints: &Constraints,
 ) -> Result<S, DecodeError>
-    ensures ok { IfOk result (λ x. Front (freedoms rules)
+    ensures ok { IfOk result (λ x. FrontOf (freedoms rules)
         (Asn1.character_string S.kind (sizes_of constraints.now.size)
         (alphabet_of constraints.now.permitted_alphabet) any_count) (Asn1Value.text (S.characters x)) cursor.old
         cursor.new) }

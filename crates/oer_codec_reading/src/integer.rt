@@ -7,8 +7,8 @@ ghost use Rattle.asn1_model.specs.Schema as Asn1;
 ghost use Rattle.asn1_model.specs.Value as Asn1Value;
 ghost use Rattle.asn1_schema_constraints.specs.Terms.{admits_whole, bounds_of, held_of};
 ghost use Rattle.asn1_values_natives.specs.Octets.{own_number};
-ghost use Rattle.oer_codec_reading.specs.Fronts.{freedoms, Front, NoFront};
-ghost use Rattle.oer_codec_reading.specs.Whole.{sign_under, width_under};
+ghost use Rattle.oer_codec_reading.specs.Fronts.{freedoms, FrontOf, NoFront};
+ghost use Rattle.oer_codec_reading.specs.Integers.{sign_under, width_under};
 
 use crate::magnitudes::short_number;
 use crate::numbers::read_number;
@@ -173,7 +173,7 @@ pub fn read_integer<I: IntegerType>(
     rules: EncodingRules,
     constraints: &Constraints,
 ) -> Result<I, DecodeError>
-    ensures ok { IfOk result (λ x. Front (freedoms rules)
+    ensures ok { IfOk result (λ x. FrontOf (freedoms rules)
         (Asn1.integer (bounds_of constraints.now.value) (held_of constraints.now.value I.held))
         (Asn1Value.number (I.value x)) cursor.old cursor.new) }
     ensures only { IfErr result (NoFront (freedoms rules)

@@ -3,8 +3,9 @@
 //! (X.696 30) and unknown additions.
 //!
 //! Each reader returns a value exactly if the input begins with an encoding of one, and takes its octets. It fails,
-//! other than with `OutOfMemory`, exactly if the input does not. The cursor is unspecified after an error. A string
-//! may hold any characters of its type: a permitted-alphabet constraint is not checked.
+//! other than with `OutOfMemory`, exactly if the input does not; a count of 2^64 or more and a tag number of 2^32
+//! or more are refused too. The cursor is unspecified after an error. A string may hold any characters of its type: a
+//! permitted-alphabet constraint is not checked.
 #![tactic(auto)]
 
 pub mod alternatives;

@@ -3,7 +3,7 @@ ghost use Rattle.std.specs.Prelude.{◌≡◌, ◌≤◌, ◌<◌, ◌||◌, not
 ghost use Rattle.asn1_model.specs.Oer.{unsigned};
 ghost use Rattle.asn1_values_natives.specs.Octets.{own_number};
 ghost use Rattle.oer_codec_reading.specs.Fronts.{freedoms, is_basic, Misses, Stands};
-ghost use Rattle.oer_codec_reading.specs.Whole.{count_in, has_spare, number_in};
+ghost use Rattle.oer_codec_reading.specs.Integers.{count_in, has_spare, number_in};
 
 use crate::length::number_of;
 use crate::octet_string::read_sized;

@@ -2,7 +2,7 @@
 ghost use Rattle.std.specs.Prelude.{◌≡◌, IfOk, IfErr};
 ghost use Rattle.asn1_model.specs.Schema as Asn1;
 ghost use Rattle.asn1_model.specs.Value as Asn1Value;
-ghost use Rattle.oer_codec_reading.specs.Fronts.{freedoms, Front, NoFront};
+ghost use Rattle.oer_codec_reading.specs.Fronts.{freedoms, FrontOf, NoFront};
 
 use crate::length::read_counted;
 use crate::{Cursor, EncodingRules};
@@ -21,7 +21,7 @@ pub fn read_object_identifier(
     cursor: &mut Cursor<'_>,
     rules: EncodingRules,
 ) -> Result<ObjectIdentifier, DecodeError>
-    ensures ok { IfOk result (λ x. Front (freedoms rules) Asn1.object_identifier (Asn1Value.arcs x) cursor.old
+    ensures ok { IfOk result (λ x. FrontOf (freedoms rules) Asn1.object_identifier (Asn1Value.arcs x) cursor.old
         cursor.new) }
     ensures only { IfErr result (NoFront (freedoms rules) Asn1.object_identifier cursor.old) }
 {

@@ -4,7 +4,7 @@ ghost use Rattle.asn1_model.specs.Schema as Asn1;
 ghost use Rattle.asn1_model.specs.Value as Asn1Value;
 ghost use Rattle.asn1_schema_constraints.specs.Bounds.{counts_of};
 ghost use Rattle.asn1_schema_constraints.specs.Terms.{sizes_of};
-ghost use Rattle.oer_codec_reading.specs.Fronts.{freedoms, Front, Misses, NoFront, Stands};
+ghost use Rattle.oer_codec_reading.specs.Fronts.{freedoms, FrontOf, Misses, NoFront, Stands};
 ghost use Rattle.oer_codec_reading.specs.Sized.{sized};
 
 use crate::length::read_counted;
@@ -52,7 +52,7 @@ pub fn read_octet_string<'input>(
     constraints: &Constraints,
     held: Bounded<usize>,
 ) -> Result<&'input [u8], DecodeError>
-    ensures ok { IfOk result (λ octets. Front (freedoms rules)
+    ensures ok { IfOk result (λ octets. FrontOf (freedoms rules)
         (Asn1.octet_string (sizes_of constraints.now.size) (counts_of held)) (Asn1Value.octet_list octets.now)
         cursor.old cursor.new) }
     ensures only { IfErr result (NoFront (freedoms rules)

@@ -4,7 +4,7 @@ ghost use Rattle.asn1_model.specs.Schema as Asn1;
 ghost use Rattle.asn1_model.specs.Schema.{any_count};
 ghost use Rattle.asn1_model.specs.Value as Asn1Value;
 ghost use Rattle.asn1_schema_constraints.specs.Terms.{sizes_of, alphabet_of};
-ghost use Rattle.oer_codec_reading.specs.Fronts.{freedoms, Front, NoFront};
+ghost use Rattle.oer_codec_reading.specs.Fronts.{freedoms, FrontOf, NoFront};
 
 use crate::octet_string::read_octet_string;
 use crate::{Cursor, EncodingRules};
@@ -25,7 +25,7 @@ pub fn read_utf8_string(
     rules: EncodingRules,
     constraints: &Constraints,
 ) -> Result<String, DecodeError>
-    ensures ok { IfOk result (λ x. Front (freedoms rules)
+    ensures ok { IfOk result (λ x. FrontOf (freedoms rules)
         (Asn1.character_string Asn1.utf8 (sizes_of constraints.now.size)
         (alphabet_of constraints.now.permitted_alphabet) any_count) (Asn1Value.text (string_bytes x)) cursor.old
         cursor.new) }

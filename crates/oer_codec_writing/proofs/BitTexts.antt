@@ -1,5 +1,8 @@
 -- The texts of bits.
-use Rattle.std.proofs.Common.{◌≡◌, ℕ, ◌+◌, ◌-◌, ◌*◌, ◌/◌, ◌%◌, ◌^◌, ◌<◌, ◌≤◌, ◌==◌, suc, Bool, true, false, List, [], ◌∷◌, ◌++◌, length, get_or, drop, take, replicate, min, Option, Some, None, option_map, option_and_then, refl, ap, sym, ◌∙◌, append_assoc, length-append, drop-cons, inl, inr, arith}
+use Rattle.std.proofs.Common.{◌≡◌, ℕ, ◌+◌, ◌-◌, ◌*◌, ◌/◌, ◌%◌, ◌^◌, ◌<◌, ◌≤◌, ◌==◌, suc, Bool, true, false, List, []}
+use Rattle.std.proofs.Common.{◌∷◌, ◌++◌, length, get_or, drop, take, replicate, min, Option, Some, None, option_map}
+use Rattle.std.proofs.Common.{option_and_then, refl, ap, sym, ◌∙◌, append_assoc, length-append, drop-cons, inl, inr}
+use Rattle.std.proofs.Common.{arith}
 use Rattle.std.proofs.lemmas.Bool.{eq-eqb, cases_lt}
 use Rattle.std.proofs.lemmas.Nat.{shr_below, shl_whole}
 use Rattle.std.proofs.lemmas.List.{append-nil, length-replicate, length-take, length-take-le, take-append-drop, take-append-le, take_at, drop_at, get_or-take, get_or_past}
@@ -28,12 +31,16 @@ pub adds_fixed_bits : (bs : List Bool) (old new : List ℕ) → new ≡ old ++ p
 unfolding Oer.bit_string_form
 adds_fixed_bits bs old new e = ap (option_map (λ w. old ++ w)) (bits_text bs 0) ∙ ap Some (sym e)
 
-counted_bits_text : (bs : List Bool) (w : List ℕ) → written (Oer.length_form ((length bs + 7) / 8 + 1)) 0 ≡ Some w → written (Oer.bit_string_form false bs) 0 ≡ Some (w ++ (missing (length bs) ∷ packed (padded bs)))
+counted_bits_text : (bs : List Bool) (w : List ℕ) → written (Oer.length_form ((length bs + 7) / 8 + 1)) 0 ≡ Some w →
+    written (Oer.bit_string_form false bs) 0 ≡ Some (w ++ (missing (length bs) ∷ packed (padded bs)))
 unfolding written Oer.bit_string_form Oer.counted_bits
 counted_bits_text bs w e =
-    ap (λ o. option_and_then (λ a. option_map (λ b. a ++ b) (option_and_then (λ c. option_map (λ d. c ++ d) (written (Oer.bits_form bs) (0 + length a + length c))) (Some (missing (length bs) ∷ [])))) o) e ∙ ap (λ o. option_map (λ b. w ++ b) (option_map (λ d. (missing (length bs) ∷ []) ++ d) o)) (bits_text bs (0 + length w + 1))
+    ap (λ o. option_and_then (λ a.
+    option_map (λ b. a ++ b) (option_and_then (λ c. option_map (λ d. c ++ d) (written (Oer.bits_form bs) (0 + length a + length c)))
+    (Some (missing (length bs) ∷ [])))) o) e ∙ ap (λ o. option_map (λ b. w ++ b) (option_map (λ d. (missing (length bs) ∷ []) ++ d) o)) (bits_text bs (0 + length w + 1))
 
-pub bit_string_text : (z : Size) (h : Counts) (bs : List Bool) → admits z h (length bs) ≡ true → written (Oer.form (bit_string z h) (bit_list bs)) 0 ≡ written (Oer.bit_string_form (Oer.is_fixed z) bs) 0
+pub bit_string_text : (z : Size) (h : Counts) (bs : List Bool) → admits z h (length bs) ≡ true →
+    written (Oer.form (bit_string z h) (bit_list bs)) 0 ≡ written (Oer.bit_string_form (Oer.is_fixed z) bs) 0
 unfolding Oer.form
 bit_string_text z h bs e = if_true (admits z h (length bs)) (Oer.bit_string_form (Oer.is_fixed z) bs) e
 
@@ -45,7 +52,8 @@ heading_text : (n : ℕ) → written (bits_heading n) 0 ≡ option_and_then (λ 
 unfolding written
 heading_text n = refl
 
-pub adds_heading : (n : ℕ) (old mid new : List ℕ) (k u : ℕ) → k ≡ (n + 7) / 8 + 1 → u ≡ missing n → Adds (written (Oer.length_form k) 0) old mid → new ≡ mid ++ u ∷ [] → Adds (written (bits_heading n) 0) old new
+pub adds_heading : (n : ℕ) (old mid new : List ℕ) (k u : ℕ) → k ≡ (n + 7) / 8 + 1 → u ≡ missing n → Adds (written (Oer.length_form k) 0) old mid →
+    new ≡ mid ++ u ∷ [] → Adds (written (bits_heading n) 0) old new
 adds_heading n old mid new k u e f a b = go (written (Oer.length_form k) 0) refl a
   where
     go : (o : Option (List ℕ)) → written (Oer.length_form k) 0 ≡ o → Adds o old mid → Adds (written (bits_heading n) 0) old new
@@ -72,7 +80,8 @@ headed_bits bs h e = go (written (Oer.length_form ((length bs + 7) / 8 + 1)) 0) 
         let g : w ++ last ≡ h = cc f in
         counted_bits_text bs w d ∙ ap Some (sym (append_assoc w last (packed (padded bs))) ∙ ap (λ l. l ++ packed (padded bs)) g)
 
-pub adds_headed_bits : (bs : List Bool) (old mid new : List ℕ) → Adds (written (bits_heading (length bs)) 0) old mid → new ≡ mid ++ packed (padded bs) → Adds (written (Oer.bit_string_form false bs) 0) old new
+pub adds_headed_bits : (bs : List Bool) (old mid new : List ℕ) → Adds (written (bits_heading (length bs)) 0) old mid →
+    new ≡ mid ++ packed (padded bs) → Adds (written (Oer.bit_string_form false bs) 0) old new
 adds_headed_bits bs old mid new a b = go (written (bits_heading (length bs)) 0) refl a
   where
     go : (o : Option (List ℕ)) → written (bits_heading (length bs)) 0 ≡ o → Adds o old mid → Adds (written (Oer.bit_string_form false bs) 0) old new
@@ -82,7 +91,8 @@ adds_headed_bits bs old mid new a b = go (written (bits_heading (length bs)) 0) 
         let p : List ℕ = packed (padded bs) in
         ap (option_map (λ l. old ++ l)) (headed_bits bs h d) ∙ ap Some (sym (append_assoc old h p) ∙ ap (λ l. l ++ p) m ∙ sym b)
 
-pub bits_moved : (old octets new : List ℕ) (bs rest : List Bool) (few v x : ℕ) → octets ++ packed (padded bs) ≡ old → 0 < length bs → few ≡ min (length bs) 8 → binary few v ≡ take few bs → v < 2 ^ few → x ≡ v * 2 ^ (8 - few) → new ≡ octets ++ x ∷ [] → rest ≡ drop few bs → new ++ packed (padded rest) ≡ old
+pub bits_moved : (old octets new : List ℕ) (bs rest : List Bool) (few v x : ℕ) → octets ++ packed (padded bs) ≡ old → 0 < length bs →
+    few ≡ min (length bs) 8 → binary few v ≡ take few bs → v < 2 ^ few → x ≡ v * 2 ^ (8 - few) → new ≡ octets ++ x ∷ [] → rest ≡ drop few bs → new ++ packed (padded rest) ≡ old
 bits_moved old octets new bs rest few v x h some e d b y n r =
     let front : packed (padded bs) ≡ x ∷ packed (padded rest) = octet_leads bs few v some e d b ∙ ap (λ k. k ∷ packed (padded (drop few bs))) (sym y) ∙ ap (λ l. x ∷ packed (padded l)) (sym r) in
     ap (λ l. l ++ packed (padded rest)) n ∙ append_assoc octets (x ∷ []) (packed (padded rest)) ∙ ap (λ l. octets ++ l) (sym front) ∙ h
@@ -100,7 +110,8 @@ whole_in_front os bs h =
     ∙ ap packed (append_assoc (octet_bits os) bs (replicate (missing (length bs)) false))
     ∙ packed_behind os (padded bs) h
 
-pub whole_added : (old mid new whole : List ℕ) (rest : List Bool) → ((i : ℕ) → get_or whole i 0 < 256) → mid ≡ old ++ whole → new ≡ mid ++ packed (padded rest) → new ≡ old ++ packed (padded (octet_bits whole ++ rest))
+pub whole_added : (old mid new whole : List ℕ) (rest : List Bool) → ((i : ℕ) → get_or whole i 0 < 256) → mid ≡ old ++ whole →
+    new ≡ mid ++ packed (padded rest) → new ≡ old ++ packed (padded (octet_bits whole ++ rest))
 whole_added old mid new whole rest h e n =
     n ∙ ap (λ l. l ++ packed (padded rest)) e ∙ append_assoc old whole (packed (padded rest)) ∙ ap (λ l. old ++ l) (sym (whole_in_front whole rest h))
 
@@ -125,7 +136,8 @@ first_bits os whole few n h k e =
     let here : octet_bits os ≡ octet_bits front ++ (binary 8 o ++ rest) = ap octet_bits (sym parts) ∙ octet_bits-append front (o ∷ drop (suc whole) os) in
     let eight : length (binary 8 o) ≡ 8 = length-binary 8 o in
     ap (take n) here
-    ∙ front_split (octet_bits front) (binary 8 o ++ rest) few n (omega (arith, k, eight, length-append (binary 8 o) rest)) (omega (arith, e, length-octet_bits front, length-take-le whole os (omega (arith, h))))
+    ∙ front_split (octet_bits front) (binary 8 o ++ rest) few n (omega (arith, k, eight, length-append (binary 8 o) rest))
+    (omega (arith, e, length-octet_bits front, length-take-le whole os (omega (arith, h))))
     ∙ ap (λ l. octet_bits front ++ l) (take-append-le few (binary 8 o) rest (omega (arith, k, eight)))
 
 -- the first bits of an octet, followed by zero bits
@@ -157,7 +169,8 @@ octets_taken os k h i = elim (cases_lt i k) [
   | inr l ↦ let e : get_or (take k os) i 0 ≡ 0 = get_or_past (take k os) i 0 (omega (arith, length-take k os, l)) in omega (arith, e)
 ]
 
-pub whole_first_added : (old new os : List ℕ) (n : ℕ) → ((i : ℕ) → get_or os i 0 < 256) → n ≤ length os * 8 → n % 8 ≡ 0 → new ≡ old ++ take (n / 8) os → new ≡ old ++ packed (padded (take n (octet_bits os)))
+pub whole_first_added : (old new os : List ℕ) (n : ℕ) → ((i : ℕ) → get_or os i 0 < 256) → n ≤ length os * 8 → n % 8 ≡ 0 →
+    new ≡ old ++ take (n / 8) os → new ≡ old ++ packed (padded (take n (octet_bits os)))
 whole_first_added old new os n h l e a =
     let k : ℕ = n / 8 in
     let t : List ℕ = take k os in
@@ -166,7 +179,8 @@ whole_first_added old new os n h l e a =
     let none : octet_bits t ++ [] ≡ take n (octet_bits os) = append-nil (octet_bits t) ∙ bits in
     whole_added old new new t [] (octets_taken os k h) a (sym (append-nil new)) ∙ ap (λ b. old ++ packed (padded b)) none
 
-pub first_added : (old mid new os : List ℕ) (n x : ℕ) → ((i : ℕ) → get_or os i 0 < 256) → n ≤ length os * 8 → 0 < n % 8 → x ≡ get_or os (n / 8) 0 / 2 ^ (8 - n % 8) * 2 ^ (8 - n % 8) % 2 ^ 8 → mid ≡ old ++ take (n / 8) os → new ≡ mid ++ x ∷ [] → new ≡ old ++ packed (padded (take n (octet_bits os)))
+pub first_added : (old mid new os : List ℕ) (n x : ℕ) → ((i : ℕ) → get_or os i 0 < 256) → n ≤ length os * 8 → 0 < n % 8 →
+    x ≡ get_or os (n / 8) 0 / 2 ^ (8 - n % 8) * 2 ^ (8 - n % 8) % 2 ^ 8 → mid ≡ old ++ take (n / 8) os → new ≡ mid ++ x ∷ [] → new ≡ old ++ packed (padded (take n (octet_bits os)))
 first_added old mid new os n x h l d e a b =
     let k : ℕ = n / 8 in
     let few : ℕ = n % 8 in

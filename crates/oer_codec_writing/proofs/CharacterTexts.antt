@@ -1,5 +1,7 @@
 -- The texts of character strings.
-use Rattle.std.proofs.Common.{◌≡◌, ℕ, zero, suc, ◌+◌, ◌*◌, ◌/◌, ◌%◌, ◌^◌, ◌<◌, ◌≤◌, leb, Bool, true, false, ◌&&◌, ◌||◌, List, [], ◌∷◌, ◌++◌, length, get_or, take, None, refl, ap, sym, ◌∙◌, append_assoc, arith, bit_and}
+use Rattle.std.proofs.Common.{◌≡◌, ℕ, zero, suc, ◌+◌, ◌*◌, ◌/◌, ◌%◌, ◌^◌, ◌<◌, ◌≤◌, leb, Bool, true, false, ◌&&◌, ◌||◌}
+use Rattle.std.proofs.Common.{List, [], ◌∷◌, ◌++◌, length, get_or, take, None, refl, ap, sym, ◌∙◌, append_assoc, arith}
+use Rattle.std.proofs.Common.{bit_and}
 use Rattle.std.specs.Prelude.{flat_map}
 use Rattle.std.proofs.lemmas.Nat.{and_mask}
 use Rattle.std.proofs.lemmas.Bool.{lt-ltb, ltb-true, leb-true}
@@ -18,7 +20,8 @@ among_most : (rs : List Run) (c m : ℕ) → list_all (λ (r : Run). leb r.last 
 among_most [] c m h e = cc
 among_most (r ∷ rs) c m h e = go (λ q i. among_most rs c m q i) (leb r.last m) (list_all (λ (q : Run). leb q.last m) rs) refl refl h (leb r.first c) (leb c r.last) refl e
   where
-    go : (list_all (λ (q : Run). leb q.last m) rs ≡ true → is_among rs c ≡ true → c ≤ m) → (a b : Bool) → leb r.last m ≡ a → list_all (λ (q : Run). leb q.last m) rs ≡ b → (a && b) ≡ true → (x y : Bool) → leb c r.last ≡ y → ((x && y) || is_among rs c) ≡ true → c ≤ m
+    go : (list_all (λ (q : Run). leb q.last m) rs ≡ true → is_among rs c ≡ true → c ≤ m) → (a b : Bool) → leb r.last m ≡ a →
+        list_all (λ (q : Run). leb q.last m) rs ≡ b → (a && b) ≡ true → (x y : Bool) → leb c r.last ≡ y → ((x && y) || is_among rs c) ≡ true → c ≤ m
     go f true true p q h true true s e = let i = leb-true r.last m p in let j = leb-true c r.last s in omega arith
     go f true true p q h true false s e = f q e
     go f true true p q h false y s e = f q e
@@ -68,7 +71,8 @@ wide_text utf8 cs w = cc
 
 pub wide_octets : (cs : List ℕ) → list_all is_octet (flat_map (digits 256 2) cs) ≡ true
 wide_octets [] = refl
-wide_octets (c ∷ cs) = let p = both_true _ _ (digits_octets 2 c) in let q = both_true _ _ p.1 in ap (λ b. b && (is_octet (c / 256 ^ 0 % 256) && list_all is_octet (flat_map (digits 256 2) cs))) p.0 ∙ (ap (λ b. b && list_all is_octet (flat_map (digits 256 2) cs)) q.0 ∙ wide_octets cs)
+wide_octets (c ∷ cs) = let p = both_true _ _ (digits_octets 2 c) in let q = both_true _ _ p.1 in
+    ap (λ b. b && (is_octet (c / 256 ^ 0 % 256) && list_all is_octet (flat_map (digits 256 2) cs))) p.0 ∙ (ap (λ b. b && list_all is_octet (flat_map (digits 256 2) cs)) q.0 ∙ wide_octets cs)
 
 pub length-wide : (cs : List ℕ) → length (flat_map (digits 256 2) cs) ≡ length cs * 2
 length-wide [] = refl
@@ -79,18 +83,21 @@ octet_at [] i h l = absurd (omega arith)
 octet_at (c ∷ cs) zero h l = ltb-true c 256 (both_true _ _ h).0
 octet_at (c ∷ cs) (suc i) h l = octet_at cs i (both_true _ _ h).1 (omega arith)
 
-pub two_more : (old now mid new cs : List ℕ) (i c x y : ℕ) → now ≡ old ++ flat_map (digits 256 2) (take i cs) → c ≡ get_or cs i 0 → i < length cs → x ≡ bit_and (c / 2 ^ 8) 255 → y ≡ bit_and c 255 → mid ≡ now ++ x ∷ [] → new ≡ mid ++ y ∷ [] → new ≡ old ++ flat_map (digits 256 2) (take (i + 1) cs)
+pub two_more : (old now mid new cs : List ℕ) (i c x y : ℕ) → now ≡ old ++ flat_map (digits 256 2) (take i cs) → c ≡ get_or cs i 0 → i < length cs →
+    x ≡ bit_and (c / 2 ^ 8) 255 → y ≡ bit_and c 255 → mid ≡ now ++ x ∷ [] → new ≡ mid ++ y ∷ [] → new ≡ old ++ flat_map (digits 256 2) (take (i + 1) cs)
 two_more old now mid new cs i c x y h e l a b m n =
     let high : x ≡ c / 256 % 256 = a ∙ and_mask (c / 2 ^ 8) 8 in
     let low : y ≡ c / 1 % 256 = b ∙ and_mask c 8 ∙ (omega arith) in
     n ∙ ap (λ w. w ++ y ∷ []) (m ∙ ap (λ w. w ++ x ∷ []) h)
     ∙ ap (λ w. w ++ y ∷ []) (append_assoc old (flat_map (digits 256 2) (take i cs)) (x ∷ [])) ∙ append_assoc old (flat_map (digits 256 2) (take i cs) ++ x ∷ []) (y ∷ [])
-    ∙ ap (λ w. old ++ w) (append_assoc (flat_map (digits 256 2) (take i cs)) (x ∷ []) (y ∷ []) ∙ ap (λ z. flat_map (digits 256 2) (take i cs) ++ z ∷ y ∷ []) high ∙ ap (λ z. flat_map (digits 256 2) (take i cs) ++ (c / 256 % 256) ∷ z ∷ []) low ∙ go cs i c e l)
+    ∙ ap (λ w. old ++ w) (append_assoc (flat_map (digits 256 2) (take i cs)) (x ∷ []) (y ∷ []) ∙
+    ap (λ z. flat_map (digits 256 2) (take i cs) ++ z ∷ y ∷ []) high ∙ ap (λ z. flat_map (digits 256 2) (take i cs) ++ (c / 256 % 256) ∷ z ∷ []) low ∙ go cs i c e l)
   where
     go : (cs : List ℕ) (i c : ℕ) → c ≡ get_or cs i 0 → i < length cs → flat_map (digits 256 2) (take i cs) ++ (c / 256 % 256) ∷ (c / 1 % 256) ∷ [] ≡ flat_map (digits 256 2) (take (i + 1) cs)
     go [] i c e l = absurd (omega arith)
     go (d ∷ cs) zero c e l = ap (λ z. (z / 256 % 256) ∷ (z / 1 % 256) ∷ []) e
-    go (d ∷ cs) (suc i) c e l = let k : suc i + 1 ≡ suc (i + 1) = omega arith in ap (λ w. (d / 256 % 256) ∷ (d / 1 % 256) ∷ w) (go cs i c e (omega arith)) ∙ ap (λ j. flat_map (digits 256 2) (take j (d ∷ cs))) (sym k)
+    go (d ∷ cs) (suc i) c e l = let k : suc i + 1 ≡ suc (i + 1) = omega arith in
+        ap (λ w. (d / 256 % 256) ∷ (d / 1 % 256) ∷ w) (go cs i c e (omega arith)) ∙ ap (λ j. flat_map (digits 256 2) (take j (d ∷ cs))) (sym k)
 
 both_are : {p q : Bool} → p ≡ true → q ≡ true → (p && q) ≡ true
 both_are {p} {q} e f = ap (λ t. t && q) e ∙ f
@@ -99,9 +106,11 @@ first_is : (p q : Bool) → p ≡ false → (p && q) ≡ false
 first_is true q e = cc
 first_is false q e = refl
 
-pub characters_text : (k : StringKind) (z : Size) (a : Alphabet) (h : Counts) (cs os : List ℕ) → admits z h (length cs) ≡ true → may_hold k cs ≡ true → Oer.string_octets k cs ≡ os → written (Oer.form (character_string k z a h) (text cs)) 0 ≡ written (Oer.octets_form (Oer.is_fixed z) os) 0
+pub characters_text : (k : StringKind) (z : Size) (a : Alphabet) (h : Counts) (cs os : List ℕ) → admits z h (length cs) ≡ true →
+    may_hold k cs ≡ true → Oer.string_octets k cs ≡ os → written (Oer.form (character_string k z a h) (text cs)) 0 ≡ written (Oer.octets_form (Oer.is_fixed z) os) 0
 unfolding Oer.form
-characters_text k z a h cs os e m s = if_true (admits z h (length cs) && may_hold k cs) (Oer.octets_form (Oer.is_fixed z) (Oer.string_octets k cs)) (both_are e m) ∙ ap (λ l. written (Oer.octets_form (Oer.is_fixed z) l) 0) s
+characters_text k z a h cs os e m s = if_true (admits z h (length cs) && may_hold k cs) (Oer.octets_form (Oer.is_fixed z) (Oer.string_octets k cs))
+    (both_are e m) ∙ ap (λ l. written (Oer.octets_form (Oer.is_fixed z) l) 0) s
 
 pub characters_none : (k : StringKind) (z : Size) (a : Alphabet) (h : Counts) (cs : List ℕ) → admits z h (length cs) ≡ false → written (Oer.form (character_string k z a h) (text cs)) 0 ≡ None
 unfolding Oer.form

@@ -1,5 +1,7 @@
 -- The low octets of numbers, and the texts of numbers after their number of octets.
-use Rattle.std.proofs.Common.{◌≡◌, ℕ, zero, suc, ◌+◌, ◌-◌, ◌*◌, ◌/◌, ◌%◌, ◌^◌, ◌<◌, ◌≤◌, ℤ, pos, negsuc, Bool, List, [], ◌∷◌, ◌++◌, length, take, drop, Some, of_z, FitsSigned, refl, ap, subst, sym, ◌∙◌, append_assoc, arith}
+use Rattle.std.proofs.Common.{◌≡◌, ℕ, zero, suc, ◌+◌, ◌-◌, ◌*◌, ◌/◌, ◌%◌, ◌^◌, ◌<◌, ◌≤◌, ℤ, pos, negsuc, Bool, List, []}
+use Rattle.std.proofs.Common.{◌∷◌, ◌++◌, length, take, drop, Some, of_z, FitsSigned, refl, ap, subst, sym, ◌∙◌}
+use Rattle.std.proofs.Common.{append_assoc, arith}
 use Rattle.std.specs.Int.{w128, bytes_high_first}
 use Rattle.std.proofs.lemmas.Nat.{pow-add}
 use Rattle.asn1_model.specs.Form.{written}
@@ -71,4 +73,5 @@ pub counted_digits : (k n : ℕ) → k < 128 → written (Oer.counted (digits 25
 counted_digits k n h = counted_text (digits 256 k n) (k ∷ []) (digits_octets k n) (ap (λ j. written (Oer.length_form j) 0) (length-digits k n) ∙ short_length k h)
 
 pub adds_counted_digits : (k n : ℕ) (old mid new : List ℕ) → k ≤ 16 → mid ≡ old ++ k ∷ [] → new ≡ mid ++ digits 256 k n → Adds (written (Oer.counted (digits 256 k n)) 0) old new
-adds_counted_digits k n old mid new h a b = adds_text _ (k ∷ digits 256 k n) old new (counted_digits k n (omega arith)) (b ∙ ap (λ l. l ++ digits 256 k n) a ∙ append_assoc old (k ∷ []) (digits 256 k n))
+adds_counted_digits k n old mid new h a b = adds_text _ (k ∷ digits 256 k n) old new (counted_digits k n (omega arith))
+    (b ∙ ap (λ l. l ++ digits 256 k n) a ∙ append_assoc old (k ∷ []) (digits 256 k n))

@@ -1,6 +1,8 @@
 -- The texts of whole numbers, and what their writers added.
 use Rattle.asn1_model.specs.Schema.{wide_range}
-use Rattle.std.proofs.Common.{◌≡◌, ℕ, zero, suc, ◌+◌, ◌-◌, ◌*◌, ◌^◌, ◌<◌, ◌≤◌, ℤ, pos, negsuc, ◌-ℤ◌, ◌≤ℤ◌, Bool, true, false, cond, not, leb, max, ◌&&◌, ◌||◌, List, ◌++◌, Option, Some, None, of_z, FitsSigned, refl, ap, subst, sym, ◌∙◌, arith, inl, inr, pow-suc}
+use Rattle.std.proofs.Common.{◌≡◌, ℕ, zero, suc, ◌+◌, ◌-◌, ◌*◌, ◌^◌, ◌<◌, ◌≤◌, ℤ, pos, negsuc, ◌-ℤ◌, ◌≤ℤ◌, Bool, true}
+use Rattle.std.proofs.Common.{false, cond, not, leb, max, ◌&&◌, ◌||◌, List, ◌++◌, Option, Some, None, of_z, FitsSigned}
+use Rattle.std.proofs.Common.{refl, ap, subst, sym, ◌∙◌, arith, inl, inr, pow-suc}
 use Rattle.std.specs.Prelude.{IfSome}
 use Rattle.std.specs.Int.{w128}
 use Rattle.std.proofs.lemmas.Int.{ints}
@@ -137,7 +139,8 @@ pub adds_fixed_signed : (k : ℕ) (v : ℤ) (old new : List ℕ) → k ≤ 16 �
 unfolding written
 adds_fixed_signed k v old new l h n = ap (λ w. Some (old ++ w)) (sym (complement_digits k v l (plain_within k v h))) ∙ ap Some (sym n)
 
-pub adds_fewest_signed : (k : ℕ) (v : ℤ) (old new : List ℕ) → k ≡ signed_octets v → k ≤ 16 → Adds (written (Oer.counted (digits 256 k (of_z w128 v))) 0) old new → Adds (written (Oer.signed_form None v) 0) old new
+pub adds_fewest_signed : (k : ℕ) (v : ℤ) (old new : List ℕ) → k ≡ signed_octets v → k ≤ 16 →
+    Adds (written (Oer.counted (digits 256 k (of_z w128 v))) 0) old new → Adds (written (Oer.signed_form None v) 0) old new
 adds_fewest_signed k v old new e l a =
     let d : digits 256 k (of_z w128 v) ≡ signed_octets_of v = complement_digits k v l (plain_within k v (omega arith)) ∙ ap (λ j. complement j v) e in
     subst (λ t. Adds t old new) (sym (signed_counted v)) (subst (λ w. Adds (written (Oer.counted w) 0) old new) d a)
@@ -147,7 +150,8 @@ unfolding written
 adds_fixed_natural k (pos m) old new s n = ap Some (sym n)
 adds_fixed_natural k (negsuc m) old new s n = cc
 
-pub adds_fewest_natural : (k : ℕ) (v : ℤ) (old new : List ℕ) → is_below_zero v ≡ false → k ≡ least_octets (of_z w128 v) → Adds (written (Oer.counted (digits 256 k (of_z w128 v))) 0) old new → Adds (written (Oer.natural_form None v) 0) old new
+pub adds_fewest_natural : (k : ℕ) (v : ℤ) (old new : List ℕ) → is_below_zero v ≡ false → k ≡ least_octets (of_z w128 v) →
+    Adds (written (Oer.counted (digits 256 k (of_z w128 v))) 0) old new → Adds (written (Oer.natural_form None v) 0) old new
 adds_fewest_natural k (pos m) old new s e a =
     subst (λ t. Adds t old new) (sym (natural_counted (pos m) s)) (subst (λ j. Adds (written (Oer.counted (digits 256 j m)) 0) old new) e a)
 adds_fewest_natural k (negsuc m) old new s e a = cc
@@ -179,16 +183,20 @@ module _ (c : Extensible Value) (h : Range) (v : ℤ) (held : is_within h v ≡ 
 
   pub extensible_text : (bounds_of (Some c)).extensible ≡ true → written (Oer.integer_form (bounds_of (Some c)) (held_of (Some c) h) v) 0 ≡ written (Oer.signed_form None v) 0
   unfolding Oer.integer_form
-  extensible_text m = if_true _ _ may_stand ∙ ap (λ (b : Bool). written (cond b (Oer.signed v) (only_if (is_within (bounds_of (Some c)).range v) (Oer.bounded (bounds_of (Some c)).range.low (bounds_of (Some c)).range.high v))) 0) m
+  extensible_text m = if_true _ _ may_stand ∙
+      ap (λ (b : Bool). written (cond b (Oer.signed v) (only_if (is_within (bounds_of (Some c)).range v) (Oer.bounded (bounds_of (Some c)).range.low (bounds_of (Some c)).range.high v))) 0) m
 
-  pub bounded_text : (bounds_of (Some c)).extensible ≡ false → is_within (bounds_of (Some c)).range v ≡ true → written (Oer.integer_form (bounds_of (Some c)) (held_of (Some c) h) v) 0 ≡ written (Oer.bounded (lower c.constraint.value) (upper c.constraint.value) v) 0
+  pub bounded_text : (bounds_of (Some c)).extensible ≡ false → is_within (bounds_of (Some c)).range v ≡ true →
+      written (Oer.integer_form (bounds_of (Some c)) (held_of (Some c) h) v) 0 ≡ written (Oer.bounded (lower c.constraint.value) (upper c.constraint.value) v) 0
   unfolding Oer.integer_form
-  bounded_text m w = if_true _ _ may_stand ∙ ap (λ (b : Bool). written (cond b (Oer.signed v) (only_if (is_within (bounds_of (Some c)).range v) (Oer.bounded (bounds_of (Some c)).range.low (bounds_of (Some c)).range.high v))) 0) m
+  bounded_text m w = if_true _ _ may_stand ∙
+      ap (λ (b : Bool). written (cond b (Oer.signed v) (only_if (is_within (bounds_of (Some c)).range v) (Oer.bounded (bounds_of (Some c)).range.low (bounds_of (Some c)).range.high v))) 0) m
       ∙ if_true (is_within (bounds_of (Some c)).range v) _ w
 
   pub outside_none : (bounds_of (Some c)).extensible ≡ false → is_within (bounds_of (Some c)).range v ≡ false → written (Oer.integer_form (bounds_of (Some c)) (held_of (Some c) h) v) 0 ≡ None
   unfolding Oer.integer_form
-  outside_none m w = if_true _ _ may_stand ∙ ap (λ (b : Bool). written (cond b (Oer.signed v) (only_if (is_within (bounds_of (Some c)).range v) (Oer.bounded (bounds_of (Some c)).range.low (bounds_of (Some c)).range.high v))) 0) m
+  outside_none m w = if_true _ _ may_stand ∙
+      ap (λ (b : Bool). written (cond b (Oer.signed v) (only_if (is_within (bounds_of (Some c)).range v) (Oer.bounded (bounds_of (Some c)).range.low (bounds_of (Some c)).range.high v))) 0) m
       ∙ if_false (is_within (bounds_of (Some c)).range v) _ w
 
 pub wide_none : (c : Extensible Value) (h : Range) (v : ℤ) → 16 < signed_octets v → written (Oer.integer_form (bounds_of (Some c)) (held_of (Some c) h) v) 0 ≡ None

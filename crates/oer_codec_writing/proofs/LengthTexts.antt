@@ -1,5 +1,7 @@
 -- Lengths and counts, at run time.
-use Rattle.std.proofs.Common.{◌≡◌, ℕ, zero, suc, ◌+◌, ◌-◌, ◌*◌, ◌/◌, ◌%◌, ◌^◌, ◌<◌, ◌≤◌, Bool, true, false, cond, ltb, leb, ◌&&◌, List, [], ◌∷◌, ◌++◌, length, get_or, Option, Some, None, option_map, option_and_then, refl, ap, sym, ◌∙◌, arith, append_assoc, bit_and, Fits}
+use Rattle.std.proofs.Common.{◌≡◌, ℕ, zero, suc, ◌+◌, ◌-◌, ◌*◌, ◌/◌, ◌%◌, ◌^◌, ◌<◌, ◌≤◌, Bool, true, false, cond, ltb}
+use Rattle.std.proofs.Common.{leb, ◌&&◌, List, [], ◌∷◌, ◌++◌, length, get_or, Option, Some, None, option_map}
+use Rattle.std.proofs.Common.{option_and_then, refl, ap, sym, ◌∙◌, arith, append_assoc, bit_and, Fits}
 use Rattle.std.specs.Int.{w8}
 use Rattle.std.proofs.lemmas.Nat.{and_mask}
 use Rattle.std.proofs.lemmas.Bool.{lt-ltb, le-ltb, le-leb}
@@ -38,7 +40,11 @@ width_64 n h = octets-least n 8 (octet_width n) (octet_width-octets n) h
 
 -- ---- lengths
 
-by_tests : (s t u : Bool) (n w : ℕ) → s ≡ true → t ≡ false → u ≡ true → written {F = Oer.Freedom} {D = Oer.Detail} {A = ℕ} (only_if s (varied Oer.longer_length (cond t None (Some w)) (λ o. elim o [ None ↦ only_if t (exactly (n ∷ [])) | Some k ↦ only_if (leb 1 k && leb k 127 && leb w k) (exactly ((128 + k) ∷ digits 256 k n)) ]))) 0 ≡ written {F = Oer.Freedom} {D = Oer.Detail} {A = ℕ} (only_if (leb 1 w && leb w 127 && leb w w) (exactly ((128 + w) ∷ digits 256 w n))) 0
+by_tests : (s t u : Bool) (n w : ℕ) → s ≡ true → t ≡ false → u ≡ true →
+    written {F = Oer.Freedom} {D = Oer.Detail} {A = ℕ}
+    (only_if s (varied Oer.longer_length (cond t None (Some w)) (λ o.
+    elim o [ None ↦ only_if t (exactly (n ∷ [])) | Some k ↦ only_if (leb 1 k && leb k 127 && leb w k) (exactly ((128 + k) ∷ digits 256 k n)) ]))) 0
+    ≡ written {F = Oer.Freedom} {D = Oer.Detail} {A = ℕ} (only_if (leb 1 w && leb w 127 && leb w w) (exactly ((128 + w) ∷ digits 256 w n))) 0
 unfolding written
 by_tests true false u n w a b c = refl
 by_tests true true u n w a b c = cc
@@ -49,7 +55,9 @@ unfolding written
 if_it_is true os e = refl
 if_it_is false os e = cc
 
-in_one_octet : (s t : Bool) (n w : ℕ) → s ≡ true → t ≡ true → written {F = Oer.Freedom} {D = Oer.Detail} {A = ℕ} (only_if s (varied Oer.longer_length (cond t None (Some w)) (λ o. elim o [ None ↦ only_if t (exactly (n ∷ [])) | Some k ↦ Oer.long_length n k ]))) 0 ≡ Some (n ∷ [])
+in_one_octet : (s t : Bool) (n w : ℕ) → s ≡ true → t ≡ true →
+    written {F = Oer.Freedom} {D = Oer.Detail} {A = ℕ}
+    (only_if s (varied Oer.longer_length (cond t None (Some w)) (λ o. elim o [ None ↦ only_if t (exactly (n ∷ [])) | Some k ↦ Oer.long_length n k ]))) 0 ≡ Some (n ∷ [])
 unfolding written
 in_one_octet true true n w a b = refl
 in_one_octet true false n w a b = cc

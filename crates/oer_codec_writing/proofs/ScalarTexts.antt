@@ -4,7 +4,7 @@ use Rattle.asn1_model.specs.Numbers.{admits}
 use Rattle.asn1_model.specs.Form.{written, only_if, exactly}
 use Rattle.std.specs.Prelude.{is_some}
 use Rattle.asn1_model.specs.Normal.{item_index}
-use Rattle.asn1_schema_tags.specs.Items.{IsPlaced}
+use Rattle.asn1_schema_tags.specs.Items.{IsPlaced, IsNone}
 use Rattle.asn1_model.specs.Schema.{Size, Counts, boolean, enumerated, octet_string, object_identifier}
 use Rattle.asn1_model.specs.Value.{truth, item, octet_list, arcs}
 use Rattle.asn1_model.specs.Strings.{is_octet, is_identifier, identifier_octets}
@@ -54,7 +54,8 @@ adds_sized f os old new e a = subst (λ b. Adds (written (Oer.octets_form b os) 
 pub adds_unsized : (f : Bool) (os old new : List ℕ) → f ≡ false → Adds (written (Oer.octets_form false os) 0) old new → Adds (written (Oer.octets_form f os) 0) old new
 adds_unsized f os old new e a = subst (λ b. Adds (written (Oer.octets_form b os) 0) old new) (sym e) a
 
-pub octet_string_text : (z : Size) (h : Counts) (os : List ℕ) → admits z h (length os) ≡ true → written (Oer.form (octet_string z h) (octet_list os)) 0 ≡ written (Oer.octets_form (Oer.is_fixed z) os) 0
+pub octet_string_text : (z : Size) (h : Counts) (os : List ℕ) → admits z h (length os) ≡ true →
+    written (Oer.form (octet_string z h) (octet_list os)) 0 ≡ written (Oer.octets_form (Oer.is_fixed z) os) 0
 unfolding Oer.form
 octet_string_text z h os e = if_true (admits z h (length os)) (Oer.octets_form (Oer.is_fixed z) os) e
 
@@ -84,10 +85,27 @@ placed_behind : (a b e : Bool) → e ≡ true → b ≡ true → (a || (e && b))
 placed_behind true b e h k = refl
 placed_behind false b e h k = ap (λ x. x && b) h ∙ k
 
-is_item : (roots : List ℤ) (e : Bool) (others : List ℤ) (v : ℤ) (added : Bool) (i : ℕ) → IsPlaced roots e others v added i → (is_some (item_index v roots) || (e && is_some (item_index v others))) ≡ true
+is_item : (roots : List ℤ) (e : Bool) (others : List ℤ) (v : ℤ) (added : Bool) (i : ℕ) → IsPlaced roots e others v added i →
+    (is_some (item_index v roots) || (e && is_some (item_index v others))) ≡ true
 is_item roots e others v false i h = placed _ _ e (ap is_some h)
 is_item roots e others v true i h = placed_behind _ _ e h.1 (ap is_some h.2)
 
-pub item_text : (roots : List ℤ) (e : Bool) (others : List ℤ) (v : ℤ) (added : Bool) (i : ℕ) → IsPlaced roots e others v added i → written (Oer.form (enumerated roots e others) (item v)) 0 ≡ written (Oer.item_form v) 0
+pub item_text : (roots : List ℤ) (e : Bool) (others : List ℤ) (v : ℤ) (added : Bool) (i : ℕ) → IsPlaced roots e others v added i →
+    written (Oer.form (enumerated roots e others) (item v)) 0 ≡ written (Oer.item_form v) 0
 unfolding Oer.form
 item_text roots e others v added i h = if_true (is_some (item_index v roots) || (e && is_some (item_index v others))) (Oer.item_form v) (is_item roots e others v added i h)
+
+-- no text where the number is that of no item
+not_placed : (a b e : Bool) → a ≡ false → (e ≡ true → b ≡ false) → (a || (e && b)) ≡ false
+not_placed true b e h k = cc
+not_placed false b false h k = refl
+not_placed false b true h k = k refl
+
+not_some : (o : Option ℕ) → o ≡ None → is_some o ≡ false
+not_some None h = refl
+not_some (Some i) h = cc
+
+pub item_none : (roots : List ℤ) (e : Bool) (others : List ℤ) (v : ℤ) → IsNone roots e others v → written (Oer.form (enumerated roots e others) (item v)) 0 ≡ None
+unfolding Oer.form
+item_none roots e others v h = if_false (is_some (item_index v roots) || (e && is_some (item_index v others))) (Oer.item_form v)
+    (not_placed _ _ e (not_some (item_index v roots) h.0) (λ t. not_some (item_index v others) (h.1 t)))

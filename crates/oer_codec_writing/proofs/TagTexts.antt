@@ -1,5 +1,7 @@
 -- The texts of enumeration values and of tags, and what their writers added.
-use Rattle.std.proofs.Common.{◌≡◌, ℕ, ◌+◌, ◌*◌, ◌^◌, ◌<◌, ◌≤◌, ℤ, pos, negsuc, Bool, true, false, cond, ltb, leb, ◌&&◌, List, [], ◌∷◌, ◌++◌, length, Option, Some, None, option_map, refl, ap, sym, ◌∙◌, arith, append_assoc, ◌⊎◌, inl, inr}
+use Rattle.std.proofs.Common.{◌≡◌, ℕ, ◌+◌, ◌*◌, ◌^◌, ◌<◌, ◌≤◌, ℤ, pos, negsuc, Bool, true, false, cond, ltb, leb, ◌&&◌}
+use Rattle.std.proofs.Common.{List, [], ◌∷◌, ◌++◌, length, Option, Some, None, option_map, refl, ap, sym, ◌∙◌, arith}
+use Rattle.std.proofs.Common.{append_assoc, ◌⊎◌, inl, inr}
 use Rattle.std.proofs.lemmas.Bool.{lt-ltb, le-ltb, le-leb, lt-leb}
 use lib.Signed.{mag, le_z, lt_z}
 use lib.IntN.{nat_abs}
@@ -27,7 +29,9 @@ unfolding written
 if_it_is true os e = refl
 if_it_is false os e = cc
 
-in_one_octet : (t u : Bool) (k n : ℕ) → t ≡ true → u ≡ true → written {F = Oer.Freedom} {D = Oer.Detail} {A = ℕ} (varied Oer.longer_item (cond t None (Some k)) (λ o. elim o [ None ↦ only_if u (exactly (n ∷ [])) | Some j ↦ Oer.long_item j (pos n) ])) 0 ≡ Some (n ∷ [])
+in_one_octet : (t u : Bool) (k n : ℕ) → t ≡ true → u ≡ true →
+    written {F = Oer.Freedom} {D = Oer.Detail} {A = ℕ} (varied Oer.longer_item (cond t None (Some k))
+    (λ o. elim o [ None ↦ only_if u (exactly (n ∷ [])) | Some j ↦ Oer.long_item j (pos n) ])) 0 ≡ Some (n ∷ [])
 unfolding written
 in_one_octet true true k n e f = refl
 in_one_octet true false k n e f = cc
@@ -61,7 +65,8 @@ all_of true false x y = y
 in_some_octets : (k : ℕ) (v : ℤ) → k ≡ signed_octets v → k ≤ 127 → written (Oer.long_item k v) 0 ≡ Some ((128 + k) ∷ complement k v)
 in_some_octets k v e h = if_it_is (leb (signed_octets v) k && leb k 127) ((128 + k) ∷ complement k v) (all_of _ _ (le-leb _ _ (omega (arith, e))) (le-leb _ _ h))
 
-not_in_one : (t : Bool) (k n : ℕ) → t ≡ false → written {F = Oer.Freedom} {D = Oer.Detail} {A = ℕ} (varied Oer.longer_item (cond t None (Some k)) (λ o. elim o [ None ↦ Oer.short_item (pos n) | Some j ↦ Oer.long_item j (pos n) ])) 0 ≡ written (Oer.long_item k (pos n)) 0
+not_in_one : (t : Bool) (k n : ℕ) → t ≡ false → written {F = Oer.Freedom} {D = Oer.Detail} {A = ℕ}
+    (varied Oer.longer_item (cond t None (Some k)) (λ o. elim o [ None ↦ Oer.short_item (pos n) | Some j ↦ Oer.long_item j (pos n) ])) 0 ≡ written (Oer.long_item k (pos n)) 0
 unfolding written
 not_in_one false k n e = refl
 not_in_one true k n e = cc
@@ -100,7 +105,8 @@ is_long v x e (inl h) n d = let a : le_z (pos 0) (pos n) ≡ false = ap (le_z (p
     not_from_0 h = omega (arith, ints, h)
 is_long v x e (inr h) n d = from_128 n (ap (λ z. lt_z z (pos 128)) (sym (e ∙ d)) ∙ h)
 
-pub long_item : (v : ℤ) (n : ℕ) (digits old mid new : List ℕ) → mag v < 2 ^ 63 → ((n : ℕ) → v ≡ pos n → 128 ≤ n) → digits ≡ signed_octets_of v → n ≡ length digits → mid ≡ old ++ (128 + n) ∷ [] → new ≡ mid ++ digits → Added (written (Oer.item_form v) 0) old new
+pub long_item : (v : ℤ) (n : ℕ) (digits old mid new : List ℕ) → mag v < 2 ^ 63 → ((n : ℕ) → v ≡ pos n → 128 ≤ n) → digits ≡ signed_octets_of v →
+    n ≡ length digits → mid ≡ old ++ (128 + n) ∷ [] → new ≡ mid ++ digits → Added (written (Oer.item_form v) 0) old new
 long_item v n digits old mid new f h d e a b =
     let count : n ≡ signed_octets v = e ∙ ap length d ∙ length_octets v in
     is_added _ (long_octets v) old new (long_text v (omega (arith, few_octets v f)) h)
@@ -131,7 +137,8 @@ long_tag_text : (t : Tag) → 63 ≤ t.value → written (Oer.tag_form (tag_of t
 unfolding Oer.tag_form
 long_tag_text t h = the_long (leb 63 t.value) (leb 1 t.value) _ _ (le-leb _ _ h) (le-leb _ _ (omega arith))
 
-pub long_tag : (t : Tag) (c : ℕ) (old mid new : List ℕ) → c ≡ class_number t.class * 64 → 63 ≤ t.value → mid ≡ old ++ (c + 63) ∷ [] → new ≡ mid ++ groups_of_seven t.value → Added (written (Oer.tag_form (tag_of t)) 0) old new
+pub long_tag : (t : Tag) (c : ℕ) (old mid new : List ℕ) → c ≡ class_number t.class * 64 → 63 ≤ t.value → mid ≡ old ++ (c + 63) ∷ [] →
+    new ≡ mid ++ groups_of_seven t.value → Added (written (Oer.tag_form (tag_of t)) 0) old new
 long_tag t c old mid new e h a b =
     is_added _ _ old new (long_tag_text t h)
     (b ∙ ap (λ l. l ++ groups_of_seven t.value) a ∙ append_assoc old ((c + 63) ∷ []) (groups_of_seven t.value) ∙ ap (λ k. old ++ ((k + 63) ∷ groups_of_seven t.value)) e)

@@ -56,7 +56,8 @@ runs_taken : (rs : List Record) (a : Written) (m : State) → a.failed ≡ false
 runs_taken [] a m k h = (a, refl)
 runs_taken (r ∷ rs) a m k h = go (λ b e f. runs_taken rs b m e f) (run a.aligned r a.state) refl h
   where
-    go : ((b : Written) → b.failed ≡ false → runs b.aligned rs b.state ≡ Some m → (c : Written) × Chain Puts rs b c) → (o : Option State) → run a.aligned r a.state ≡ o → option_and_then (λ m. runs a.aligned rs m) o ≡ Some m → (c : Written) × Chain Puts (r ∷ rs) a c
+    go : ((b : Written) → b.failed ≡ false → runs b.aligned rs b.state ≡ Some m → (c : Written) × Chain Puts rs b c) → (o : Option State) →
+        run a.aligned r a.state ≡ o → option_and_then (λ m. runs a.aligned rs m) o ≡ Some m → (c : Written) × Chain Puts (r ∷ rs) a c
     go again None e f = cc
     go again (Some n) e f =
         let b : Written = record { state = n; aligned = a.aligned; failed = false } in
@@ -69,16 +70,19 @@ by_variant true s v = (refl, refl)
 by_variant false s v = (refl, refl)
 
 -- the message of a value, from the state after its records
-as_text : (al : Bool) (schema : ℕ → Schema) (v : Value) (o : Option (List ℕ)) → IsValue schema v → ((n : ℕ) → Fits (schema n) v → option_and_then octets_of (runs al (presents (schema n) v) ([], [])) ≡ o) → HasTextIn (packed_rules al) schema v o
+as_text : (al : Bool) (schema : ℕ → Schema) (v : Value) (o : Option (List ℕ)) → IsValue schema v →
+    ((n : ℕ) → Fits (schema n) v → option_and_then octets_of (runs al (presents (schema n) v) ([], [])) ≡ o) → HasTextIn (packed_rules al) schema v o
 as_text al schema v o i h n f =
     let m : per al (schema n) (normal (schema n) v) ≡ o = ap (per al (schema n)) (i.normal n) ∙ sym (messages al (schema n) v) ∙ h n f in
     let b = by_variant al (schema n) (normal (schema n) v) in
     (b.0 ∙ m, b.1 ∙ m)
 
-text_written : (al : Bool) (schema : ℕ → Schema) (v : Value) (new : Written) → IsValue schema v → Writes Puts schema v (nothing_held al) new → HasTextIn (packed_rules al) schema v (octets_of new.state)
+text_written : (al : Bool) (schema : ℕ → Schema) (v : Value) (new : Written) → IsValue schema v → Writes Puts schema v (nothing_held al) new →
+    HasTextIn (packed_rules al) schema v (octets_of new.state)
 text_written al schema v new i w = as_text al schema v (octets_of new.state) i (λ n f. ap (option_and_then octets_of) (runs_held (presents (schema n) v) (nothing_held al) new (w.chain n f)))
 
-no_text : (al : Bool) (schema : ℕ → Schema) (v : Value) (e : EncodeError) → IsValue schema v → ¬ (e ≡ OutOfMemory) → CannotWrite Puts schema v (nothing_held al) e → HasTextIn (packed_rules al) schema v None
+no_text : (al : Bool) (schema : ℕ → Schema) (v : Value) (e : EncodeError) → IsValue schema v → ¬ (e ≡ OutOfMemory) →
+    CannotWrite Puts schema v (nothing_held al) e → HasTextIn (packed_rules al) schema v None
 no_text al schema v e i y c = as_text al schema v None i (λ n f. ap (option_and_then octets_of) (go n f (runs al (presents (schema n) v) ([], [])) refl))
   where
     go : (n : ℕ) → Fits (schema n) v → (o : Option State) → runs al (presents (schema n) v) ([], []) ≡ o → o ≡ None
@@ -88,7 +92,9 @@ no_text al schema v e i y c = as_text al schema v None i (λ n f. ap (option_and
 -- ---- the results of the calls
 
 -- after the records of a value come its bits
-pub written_all : (al : Bool) (schema : ℕ → Schema) (v : Value) (start new : Written) → start ≡ nothing_held al → IsValue schema v → Writes Puts schema v start new → (new.failed ≡ false) × (new.state.1 ≡ []) × IsWrittenIn (packed_rules al) schema v (option_and_then of_moderate_length (octets_of new.state)) × HasTextIn (packed_rules al) schema v (octets_of new.state)
+pub written_all : (al : Bool) (schema : ℕ → Schema) (v : Value) (start new : Written) → start ≡ nothing_held al → IsValue schema v →
+    Writes Puts schema v start new → (new.failed ≡ false) × (new.state.1 ≡ []) ×
+    IsWrittenIn (packed_rules al) schema v (option_and_then of_moderate_length (octets_of new.state)) × HasTextIn (packed_rules al) schema v (octets_of new.state)
 unfolding held aligned
 written_all al schema v start new e i w =
     let x : Writes Puts schema v (nothing_held al) new = subst (λ s. Writes Puts schema v s new) e w in
@@ -96,7 +102,8 @@ written_all al schema v start new e i w =
     (still_ready _ (nothing_held al) new (x.chain (depth v) (i.fits (depth v) (omega arith))) refl, t.0, t.1, text_written al schema v new i x)
 
 -- a value whose records are refused has no octets
-pub refused_all : (al : Bool) (schema : ℕ → Schema) (v : Value) (start : Written) (x e : EncodeError) → start ≡ nothing_held al → IsValue schema v → CannotWrite Puts schema v start x → PassedOn x e → NotWrittenIn (packed_rules al) schema v e
+pub refused_all : (al : Bool) (schema : ℕ → Schema) (v : Value) (start : Written) (x e : EncodeError) → start ≡ nothing_held al → IsValue schema v →
+    CannotWrite Puts schema v start x → PassedOn x e → NotWrittenIn (packed_rules al) schema v e
 unfolding held aligned Ready
 refused_all al schema v start x e k i c p =
     let y : CannotWrite Puts schema v (nothing_held al) x = subst (λ s. CannotWrite Puts schema v s x) k c in

@@ -1,5 +1,7 @@
 -- Which message a decoder has found, and why the octets begin with none if it has found none.
-use Rattle.std.proofs.Common.{◌≡◌, inl, inr, min, ℕ, ◌+◌, ◌-◌, ◌*◌, ◌/◌, ◌<◌, ◌≤◌, ◌^◌, zero, suc, Bool, true, false, IsTrue, Some, None, List, [], ◌∷◌, ◌++◌, length, take, drop, refl, ap, sym, ◌∙◌, subst, append_assoc, append-nil, arith, length-append}
+use Rattle.std.proofs.Common.{◌≡◌, inl, inr, min, ℕ, ◌+◌, ◌-◌, ◌*◌, ◌/◌, ◌<◌, ◌≤◌, ◌^◌, zero, suc, Bool, true, false}
+use Rattle.std.proofs.Common.{IsTrue, Some, None, List, [], ◌∷◌, ◌++◌, length, take, drop, refl, ap, sym, ◌∙◌, subst}
+use Rattle.std.proofs.Common.{append_assoc, append-nil, arith, length-append}
 use Rattle.std.specs.Prelude.{is_some}
 use Rattle.std.proofs.lemmas.Bool.{cases_lt}
 use Rattle.std.proofs.lemmas.List.{length-take, take-append-drop, take-append-le}
@@ -78,7 +80,8 @@ front_octets k input h =
     let text = take k (first input) in
     let rest = drop k (first input) ++ drop (2 ^ 60 - 1) input in
     let n : length text ≡ k = omega (arith, h, length-take k (first input)) in
-    let i : text ++ rest ≡ input = sym (append_assoc text (drop k (first input)) (drop (2 ^ 60 - 1) input)) ∙ ap (λ l. l ++ drop (2 ^ 60 - 1) input) (take-append-drop k (first input)) ∙ take-append-drop (2 ^ 60 - 1) input in
+    let i : text ++ rest ≡ input = sym (append_assoc text (drop k (first input)) (drop (2 ^ 60 - 1) input)) ∙
+    ap (λ l. l ++ drop (2 ^ 60 - 1) input) (take-append-drop k (first input)) ∙ take-append-drop (2 ^ 60 - 1) input in
     let d : drop k input ≡ rest = ap (drop k) (sym i) ∙ ap (λ j. drop j (text ++ rest)) (sym n) ∙ drop-append_seam text rest in
     ap (λ l. text ++ l) d ∙ i
 
@@ -86,10 +89,11 @@ front_octets k input h =
 record Whole (r : PackedRules) (s : Schema) (v : Value) (input : List ℕ) (after : Position) : Type 0 where
   count : ℕ
   within : count ≤ length (first input)
-  left : length after.1 + count * 8 ≡ length (octet_bits (first input))
+  taken : after.0 ≡ count * 8
   reads : Reads (freedoms r) (Per.message (is_aligned r) s v) 0 (octet_bits (take count (first input)))
 
-whole : (r : PackedRules) (s : Schema) (v : Value) (input : List ℕ) (left after : Position) → Front (freedoms r) (Per.form (is_aligned r) s v) (0, octet_bits (first input)) left → Front (freedoms r) (completion left.0) left after → Whole r s v input after
+whole : (r : PackedRules) (s : Schema) (v : Value) (input : List ℕ) (left after : Position) →
+    Front (freedoms r) (Per.form (is_aligned r) s v) (0, octet_bits (first input)) left → Front (freedoms r) (completion left.0) left after → Whole r s v input after
 unfolding Per.message Per.complete Reads
 whole r s v input left after f g =
     let free = freedoms r in
@@ -102,29 +106,33 @@ whole r s v input left after f g =
     let m = sym (length-append text after.1) ∙ ap length all in
     let o = length-octet_bits os in
     let w : k.0 ≤ length os = omega (arith, n, m, o) in
-    let bits : octet_bits (take k.0 os) ≡ text = octet_bits-take k.0 os w ∙ ap (λ (l : List Bool). take (k.0 * 8) l) (sym all) ∙ ap (λ i. take i (text ++ after.1)) (sym n) ∙ take-append_seam text after.1 in
+    let bits : octet_bits (take k.0 os) ≡ text = octet_bits-take k.0 os w ∙ ap (λ (l : List Bool). take (k.0 * 8) l) (sym all) ∙
+    ap (λ i. take i (text ++ after.1)) (sym n) ∙ take-append_seam text after.1 in
     record {
       count = k.0;
       within = w;
-      left = omega (arith, n, m);
+      taken = omega (arith, n, length-append f.text g.text, f.moved, g.moved);
       reads = subst (λ (l : List Bool). Reads free (Per.complete (Per.form (is_aligned r) s v)) 0 l) (sym bits) reads;
     }
 
 abbrev pub Finished : PackedRules → Held → Position → Type 0
 Finished r new after = Front (freedoms r) (completion new.place.0) new.place after
 
-found_form : (r : PackedRules) (schema : ℕ → Schema) (v : Value) (input : List ℕ) (new : Held) (t : ReadsValue Finds schema 128 v (begun r input) new) → Front (freedoms r) (Per.form (is_aligned r) (schema 128) t.raw) (0, octet_bits (first input)) new.place
+found_form : (r : PackedRules) (schema : ℕ → Schema) (v : Value) (input : List ℕ) (new : Held)
+    (t : ReadsValue Finds schema 128 v (begun r input) new) → Front (freedoms r) (Per.form (is_aligned r) (schema 128) t.raw) (0, octet_bits (first input)) new.place
 found_form r schema v input new t =
-    let f = records_read (is_aligned r) (freedoms r) (schema 128) t.raw ((0, octet_bits (first input)), []) (new.place, new.scopes) (any_bitmap r) (any_order r) (bits_taken (presents (schema 128) t.raw) (begun r input) new t.chain) in
+    let f = records_read (is_aligned r) (freedoms r) (schema 128) t.raw ((0, octet_bits (first input)), []) (new.place, new.scopes) (any_bitmap r)
+    (any_order r) (bits_taken (presents (schema 128) t.raw) (begun r input) new t.chain) in
     f.0
 
-pub told : (r : PackedRules) (schema : ℕ → Schema) (v : Value) (input : List ℕ) (new : Held) (after : Position) → ReadsValue Finds schema 128 v (begun r input) new → Finished r new after → Tells (rules_of r) schema v input (drop ((length (octet_bits (first input)) - length after.1) / 8) input)
+pub told : (r : PackedRules) (schema : ℕ → Schema) (v : Value) (input : List ℕ) (new : Held) (after : Position) →
+    ReadsValue Finds schema 128 v (begun r input) new → Finished r new after → Tells (rules_of r) schema v input (drop (after.0 / 8) input)
 told r schema v input new after t g =
     let s = schema 128 in
     let w = whole r s t.raw input new.place after (found_form r schema v input new t) g in
     let l = (nests s t.raw 128 128 new.levels t.fits (omega arith)).0 (levels_taken (presents s t.raw) (begun r input) new t.chain) in
-    let k = w.left in
-    let c : (length (octet_bits (first input)) - length after.1) / 8 ≡ w.count = omega (arith, k) in
+    let k = w.taken in
+    let c : after.0 / 8 ≡ w.count = omega (arith, k) in
     let i = w.within in
     let n : length (take w.count (first input)) < 2 ^ 60 = omega (arith, i, length-take (2 ^ 60 - 1) input, length-take w.count (first input)) in
     subst (λ m. Tells (rules_of r) schema v input (drop m input)) (sym c) (record {
@@ -139,24 +147,24 @@ told r schema v input new after t g =
     })
 
 -- the same for a new decoder
-pub told_from : (r : PackedRules) (schema : ℕ → Schema) (v : Value) (input : List ℕ) (old new : Held) (after : Position) → old ≡ begun r input → ReadsValue Finds schema old.levels v old new → Front (freedoms new.rules) (completion new.place.0) new.place after → Tells (rules_of r) schema v input (drop ((length old.place.1 - length after.1) / 8) input)
+pub told_from : (r : PackedRules) (schema : ℕ → Schema) (v : Value) (input : List ℕ) (old new : Held) (after : Position) → old ≡ begun r input → ReadsValue Finds schema old.levels v old new
+    → Front (freedoms new.rules) (completion new.place.0) new.place after → Tells (rules_of r) schema v input (drop (after.0 / 8) input)
 told_from r schema v input old new after e t g =
     let u : ReadsValue Finds schema 128 v (begun r input) new = subst (λ (h : Held). ReadsValue Finds schema h.levels v h new) e t in
     let q : new.rules ≡ r = rules_still (presents (schema 128) u.raw) (begun r input) new u.chain in
-    let f : Finished r new after = subst (λ (x : PackedRules). Front (freedoms x) (completion new.place.0) new.place after) q g in
-    subst (λ (n : ℕ). Tells (rules_of r) schema v input (drop ((n - length after.1) / 8) input)) (sym (ap (λ (h : Held). length h.place.1) e)) (told r schema v input new after u f)
+    told r schema v input new after u (subst (λ (x : PackedRules). Front (freedoms x) (completion new.place.0) new.place after) q g)
 
--- at most as many bits are left as there were, and the octets that were taken are in the input
-pub left_within : (r : PackedRules) (schema : ℕ → Schema) (v : Value) (input : List ℕ) (old new : Held) (after : Position) → old ≡ begun r input → ReadsValue Finds schema old.levels v old new → Front (freedoms new.rules) (completion new.place.0) new.place after → (length after.1 ≤ length old.place.1) × ((length old.place.1 - length after.1) / 8 ≤ length input)
+-- the octets that were taken are in the input
+pub left_within : (r : PackedRules) (schema : ℕ → Schema) (v : Value) (input : List ℕ) (old new : Held) (after : Position) → old ≡ begun r input → ReadsValue Finds schema old.levels v old new
+    → Front (freedoms new.rules) (completion new.place.0) new.place after → after.0 / 8 ≤ length input
 left_within r schema v input old new after e t g =
     let u : ReadsValue Finds schema 128 v (begun r input) new = subst (λ (h : Held). ReadsValue Finds schema h.levels v h new) e t in
     let q : new.rules ≡ r = rules_still (presents (schema 128) u.raw) (begun r input) new u.chain in
     let f : Finished r new after = subst (λ (x : PackedRules). Front (freedoms x) (completion new.place.0) new.place after) q g in
     let w = whole r (schema 128) u.raw input new.place after (found_form r schema v input new u) f in
-    let k = w.left in
+    let k = w.taken in
     let i = w.within in
-    let l : length old.place.1 ≡ length (octet_bits (first input)) = ap (λ (h : Held). length h.place.1) e in
-    (omega (arith, k, l), omega (arith, k, l, i, length-take (2 ^ 60 - 1) input))
+    omega (arith, k, i, length-take (2 ^ 60 - 1) input)
 
 -- ---- what is not found
 front_of : (text rest input : List ℕ) → length text < 2 ^ 60 → text ++ rest ≡ input → text ++ take (2 ^ 60 - 1 - length text) rest ≡ first input
@@ -187,7 +195,8 @@ module _ (r : PackedRules) (schema : ℕ → Schema) (input : List ℕ) (lawful 
       let others = octet_bits (take (2 ^ 60 - 1 - length m.message) rest) in
       let left : Position = (length bits, z.0 ++ others) in
       let after : Position = (length bits + length z.0, others) in
-      let all : bits ++ (z.0 ++ others) ≡ octet_bits (first input) = sym (append_assoc bits z.0 others) ∙ ap (λ l. l ++ others) z.1 ∙ sym (octet_bits-append m.message (take (2 ^ 60 - 1 - length m.message) rest)) ∙ ap octet_bits (front_of m.message rest input q.0 m.in_front) in
+      let all : bits ++ (z.0 ++ others) ≡ octet_bits (first input) = sym (append_assoc bits z.0 others) ∙ ap (λ l. l ++ others) z.1 ∙
+      sym (octet_bits-append m.message (take (2 ^ 60 - 1 - length m.message) rest)) ∙ ap octet_bits (front_of m.message rest input q.0 m.in_front) in
       let f : Front free (Per.form al s v) (0, octet_bits (first input)) (length bits, z.0 ++ others) = record { text = bits; has_form = q.1.1; in_front = all; moved = omega arith } in
       let g : Front free (completion (length bits)) (length bits, z.0 ++ others) (length bits + length z.0, others) = record { text = z.0; has_form = z.2; in_front = refl; moved = refl } in
       let w = forms_show al free s v ((0, octet_bits (first input)), []) ((length bits, z.0 ++ others), []) (any_bitmap r) lawful (f, refl) in
@@ -206,9 +215,13 @@ module _ (r : PackedRules) (schema : ℕ → Schema) (input : List ℕ) (lawful 
       }
 
   pub none_told : {failed : Held} (e : DecodeError) → Unread Finds TooFewHeld schema 128 (begun r input) failed e → NoMessage (rules_of r) schema input e
-  none_told {failed} e u = record { none = λ n v rest m. let f = found_again v rest m in u.none n (begun r input) (few_at_once 0 (begun r input) failed) f.value (held_at (begun r input) (f.left, []) 128 f.stands) f.fits f.chain }
+  none_told {failed} e u = record {
+    none = λ n v rest m. let f = found_again v rest m in
+        u.none n (begun r input) (few_at_once 0 (begun r input) failed) f.value (held_at (begun r input) (f.left, []) 128 f.stands) f.fits f.chain;
+  }
 
-  pub none_finished : (e : DecodeError) (x : Value) (new : Held) → ReadsValue Finds schema 128 x (begun r input) new → ((b : Position) → Front (freedoms r) (completion new.place.0) new.place b → ⊥) → NoMessage (rules_of r) schema input e
+  pub none_finished : (e : DecodeError) (x : Value) (new : Held) → ReadsValue Finds schema 128 x (begun r input) new →
+      ((b : Position) → Front (freedoms r) (completion new.place.0) new.place b → ⊥) → NoMessage (rules_of r) schema input e
   none_finished e x new t none = record {
     none = λ n v rest m.
         let f = found_again v rest m in
@@ -216,10 +229,13 @@ module _ (r : PackedRules) (schema : ℕ → Schema) (input : List ℕ) (lawful 
         none f.after (subst (λ (h : Held). Front (freedoms r) (completion h.place.0) h.place f.after) (sym k.1) f.padded);
   }
 
-pub none_told_from : {failed : Held} (r : PackedRules) (schema : ℕ → Schema) (input : List ℕ) (old : Held) (e : DecodeError) → IsLawful (schema 128) → old ≡ begun r input → Unread Finds TooFewHeld schema old.levels old failed e → NoMessage (rules_of r) schema input e
+pub none_told_from : {failed : Held} (r : PackedRules) (schema : ℕ → Schema) (input : List ℕ) (old : Held) (e : DecodeError) → IsLawful (schema 128) →
+    old ≡ begun r input → Unread Finds TooFewHeld schema old.levels old failed e → NoMessage (rules_of r) schema input e
 none_told_from {failed} r schema input old e lawful q u = none_told r schema input lawful e (subst (λ (h : Held). Unread Finds TooFewHeld schema h.levels h failed e) q u)
 
-pub none_finished_from : (r : PackedRules) (schema : ℕ → Schema) (input : List ℕ) (x : Value) (old new : Held) (e : DecodeError) → IsLawful (schema 128) → old ≡ begun r input → ReadsValue Finds schema old.levels x old new → (IsReady new → (b : Position) → Front (freedoms new.rules) (completion new.place.0) new.place b → ⊥) → NoMessage (rules_of r) schema input e
+pub none_finished_from : (r : PackedRules) (schema : ℕ → Schema) (input : List ℕ) (x : Value) (old new : Held) (e : DecodeError) →
+    IsLawful (schema 128) → old ≡ begun r input → ReadsValue Finds schema old.levels x old new →
+    (IsReady new → (b : Position) → Front (freedoms new.rules) (completion new.place.0) new.place b → ⊥) → NoMessage (rules_of r) schema input e
 none_finished_from r schema input x old new e lawful q t none =
     let u : ReadsValue Finds schema 128 x (begun r input) new = subst (λ (h : Held). ReadsValue Finds schema h.levels x h new) q t in
     let k : new.rules ≡ r = rules_still (presents (schema 128) u.raw) (begun r input) new u.chain in
@@ -261,19 +277,26 @@ begun_more input more = elim (cases_lt (2 ^ 60 - 1) (length input)) [
 ]
 
 -- If a decoder failed, the input with a few octets appended begins with no message either.
-more_needed : (r : PackedRules) (schema : ℕ → Schema) (input : List ℕ) (failed : Held) (n : ℕ) (e : DecodeError) → IsLawful (schema 128) → n ≤ lacks failed / 8 + 1 → Unread Finds TooFewHeld schema 128 (begun r input) failed e → NeedsMore (rules_of r) schema input n e
+more_needed : (r : PackedRules) (schema : ℕ → Schema) (input : List ℕ) (failed : Held) (n : ℕ) (e : DecodeError) → IsLawful (schema 128) →
+    n ≤ lacks failed / 8 + 1 → Unread Finds TooFewHeld schema 128 (begun r input) failed e → NeedsMore (rules_of r) schema input n e
 more_needed r schema input failed n e lawful few u more h =
     let z = begun_more input more in
     let w = octet_bits z.0 in
     let b : octet_bits (first (input ++ more)) ≡ octet_bits (first input) ++ w = ap octet_bits z.1 ∙ octet_bits-append (first input) z.0 in
-    let d : begun r (input ++ more) ≡ held_with w (begun r input) = ap (λ (x : List Bool). let h : Held = record { place = (0, x); scopes = []; levels = 128; most = 128; failed = None; rules = r; stands = Some 0 ∷ [] } in h) b in
+    let d : begun r (input ++ more) ≡ held_with w (begun r input) =
+    ap (λ (x : List Bool). let h : Held = record { place = (0, x); scopes = []; levels = 128; most = 128; failed = None; rules = r; stands = Some 0 ∷ [] } in h) b in
     let l = z.2 in
     let m = length-octet_bits z.0 in
     let near : TooFewHeld (begun r input) failed (begun r (input ++ more)) = (w, d, inl (omega arith, omega (arith, l, m, few, h))) in
-    record { none = λ i v rest g. let f = found_again r schema (input ++ more) lawful v rest g in u.none i (begun r (input ++ more)) near f.value (held_at (begun r (input ++ more)) (f.left, []) 128 f.stands) f.fits f.chain }
+    record {
+      none = λ i v rest g. let f = found_again r schema (input ++ more) lawful v rest g in
+          u.none i (begun r (input ++ more)) near f.value (held_at (begun r (input ++ more)) (f.left, []) 128 f.stands) f.fits f.chain;
+    }
 
-pub more_needed_from : (r : PackedRules) (schema : ℕ → Schema) (input : List ℕ) (old failed : Held) (n : ℕ) (e : DecodeError) → IsLawful (schema 128) → old ≡ begun r input → n ≡ min (lacks failed) (2 ^ 64 - 1) / 8 + 1 → Unread Finds TooFewHeld schema old.levels old failed e → NeedsMore (rules_of r) schema input n e
-more_needed_from r schema input old failed n e lawful q k u = more_needed r schema input failed n e lawful (omega (arith, k)) (subst (λ (h : Held). Unread Finds TooFewHeld schema h.levels h failed e) q u)
+pub more_needed_from : (r : PackedRules) (schema : ℕ → Schema) (input : List ℕ) (old failed : Held) (n : ℕ) (e : DecodeError) →
+    IsLawful (schema 128) → old ≡ begun r input → n ≡ min (lacks failed) (2 ^ 64 - 1) / 8 + 1 → Unread Finds TooFewHeld schema old.levels old failed e → NeedsMore (rules_of r) schema input n e
+more_needed_from r schema input old failed n e lawful q k u =
+    more_needed r schema input failed n e lawful (omega (arith, k)) (subst (λ (h : Held). Unread Finds TooFewHeld schema h.levels h failed e) q u)
 
 -- if the octets begin with no message, they begin with none with no octets appended
 pub none_with_fewer : (r : PackedRules) (schema : ℕ → Schema) (input : List ℕ) (e : DecodeError) → NoMessage (rules_of r) schema input e → NeedsMore (rules_of r) schema input 1 e

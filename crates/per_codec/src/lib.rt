@@ -1,5 +1,5 @@
 //! The packed encoding rules (X.691), unaligned (UPER) and aligned (APER): values are encoded, and decoded from all
-//! forms or, strictly, only from the forms that an encoder writes.
+//! forms or, strictly, only from the forms that an encoder writes, except for the freedoms of strict rules.
 #![tactic(auto)]
 
 pub mod aper;

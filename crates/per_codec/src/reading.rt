@@ -44,10 +44,9 @@ pub fn decode_with_remainder<'input, T: Decode>(
     ensures fresh { IfErr result (λ e. e ≡ DecodeError.AlreadyFailed → ⊥) }
 {
     let mut decoder = Decoder::new(alloc, input, DecoderOptions { rules });
-    let looked_at = decoder.input().len();
     let value = T::decode(alloc, &mut decoder)?;
     decoder.finish()?;
-    let taken = (looked_at - decoder.input().len()) / 8;
+    let taken = decoder.position() / 8;
     decoder.let_go();
     let (_, rest) = input.split_at(taken);
     Ok((value, rest))
@@ -72,7 +71,6 @@ pub fn decode_or_need<'input, T: Decode>(
     ensures some { IfErr result (λ r. 1 ≤ r.needed) }
 {
     let mut decoder = Decoder::new(alloc, input, DecoderOptions { rules });
-    let looked_at = decoder.input().len();
     let value = match T::decode(alloc, &mut decoder) {
         Ok(value) => value,
         Err(error) => {
@@ -84,7 +82,7 @@ pub fn decode_or_need<'input, T: Decode>(
         Ok(()) => {}
         Err(error) => return Err(Refusal { error, needed: 1 }),
     }
-    let taken = (looked_at - decoder.input().len()) / 8;
+    let taken = decoder.position() / 8;
     decoder.let_go();
     let (_, rest) = input.split_at(taken);
     Ok((value, rest))

@@ -1,5 +1,7 @@
 -- Additions that are stored.
-use Rattle.std.proofs.Common.{◌≡◌, ℕ, zero, suc, ◌+◌, ◌-◌, ◌*◌, ◌^◌, ◌<◌, ◌≤◌, max, Bool, true, false, List, [], ◌∷◌, ◌++◌, length, length-append, map, take, drop, slice_range, get_or, replicate, Option, Some, None, refl, ap, subst, sym, ◌∙◌, arith}
+use Rattle.std.proofs.Common.{◌≡◌, ℕ, zero, suc, ◌+◌, ◌-◌, ◌*◌, ◌^◌, ◌<◌, ◌≤◌, max, Bool, true, false, List, [], ◌∷◌}
+use Rattle.std.proofs.Common.{◌++◌, length, length-append, map, take, drop, slice_range, get_or, replicate, Option}
+use Rattle.std.proofs.Common.{Some, None, refl, ap, subst, sym, ◌∙◌, arith}
 use mir.Val.{bool_byte}
 use Rattle.std.proofs.Math.Nat.{pow-suc}
 use Rattle.std.proofs.Math.Seq.{drop-append_seam}
@@ -21,7 +23,8 @@ use Rattle.per_codec_writing.proofs.OpenTypes.{adds_open_none, adds_open_some}
 
 -- ---- complete encodings
 
-pub adds_complete : (al : Bool) (w : List Bool) (os : List ℕ) (old new : Packed) → os ≡ complete_octets w → Adds (field_list_at (Per.counted_octets al os) (place old)) old new → Adds (field_list_at (Per.open_type al (exactly w)) (place old)) old new
+pub adds_complete : (al : Bool) (w : List Bool) (os : List ℕ) (old new : Packed) → os ≡ complete_octets w →
+    Adds (field_list_at (Per.counted_octets al os) (place old)) old new → Adds (field_list_at (Per.open_type al (exactly w)) (place old)) old new
 adds_complete al [] os old new e a = adds_open_none al [] os old new refl e a
 adds_complete al (b ∷ bs) os old new e a = adds_open_some al (b ∷ bs) os old new (λ (q : (b ∷ bs) ≡ []). cc) e a
 
@@ -195,18 +198,25 @@ kept_at shared [] i s d h l e = absurd (omega (arith, l))
 kept_at shared (r ∷ ss) zero s d h l e = subst (IsSlotOf shared) (sym e) h.0
 kept_at shared (r ∷ ss) (suc i) s d h l e = kept_at shared ss i s d h.1 (omega (arith, l)) e
 
-present_next : (al : Bool) (o : Option (List Bool)) (slots : List (Option (List Bool))) (old mid new : Packed) → ((w : List Bool) → o ≡ Some w → Adds (field_list_at (Per.open_type al (exactly w)) (place old)) old mid) → (o ≡ None → mid ≡ old) → Present al slots mid new → Present al (o ∷ slots) old new
+present_next : (al : Bool) (o : Option (List Bool)) (slots : List (Option (List Bool))) (old mid new : Packed) →
+    ((w : List Bool) → o ≡ Some w → Adds (field_list_at (Per.open_type al (exactly w)) (place old)) old mid) → (o ≡ None → mid ≡ old) → Present al slots mid new → Present al (o ∷ slots) old new
 present_next al None slots old mid new a e b = present_past al None slots old new refl (subst (λ l. Present al slots l new) (e refl) b)
 present_next al (Some w) slots old mid new a e b = present_on al (Some w) slots w old mid new refl (a w refl) b
 
-pub slot_next : (al : Bool) (shared : List ℕ) (ss : List Slot) (i : ℕ) (s d : Slot) (old mid new : Packed) → i < length ss → s ≡ get_or ss i d → ((w : List Bool) → kept_bits shared s ≡ Some w → Adds (field_list_at (Per.open_type al (exactly w)) (place old)) old mid) → (kept_bits shared s ≡ None → mid ≡ old) → Present al (all_bits shared (drop (i + 1) ss)) mid new → Present al (all_bits shared (drop i ss)) old new
-slot_next al shared ss i s d old mid new h is a e b = subst (λ l. Present al (all_bits shared l) old new) (sym (drop_more ss i d h ∙ ap (λ r. r ∷ drop (i + 1) ss) (sym is))) (present_next al (kept_bits shared s) (all_bits shared (drop (i + 1) ss)) old mid new a e b)
+pub slot_next : (al : Bool) (shared : List ℕ) (ss : List Slot) (i : ℕ) (s d : Slot) (old mid new : Packed) → i < length ss → s ≡ get_or ss i d →
+    ((w : List Bool) → kept_bits shared s ≡ Some w → Adds (field_list_at (Per.open_type al (exactly w)) (place old)) old mid) →
+    (kept_bits shared s ≡ None → mid ≡ old) → Present al (all_bits shared (drop (i + 1) ss)) mid new → Present al (all_bits shared (drop i ss)) old new
+slot_next al shared ss i s d old mid new h is a e b = subst (λ l. Present al (all_bits shared l) old new)
+    (sym (drop_more ss i d h ∙ ap (λ r. r ∷ drop (i + 1) ss) (sym is))) (present_next al (kept_bits shared s) (all_bits shared (drop (i + 1) ss)) old mid new a e b)
 
 pub slots_passed : (al : Bool) (shared : List ℕ) (ss : List Slot) (i : ℕ) (old : Packed) → length ss ≤ i → Present al (all_bits shared (drop i ss)) old old
 slots_passed al shared ss i old h = subst (λ l. Present al (all_bits shared l) old old) (sym (drop_all i ss h)) (present_none al old)
 
-pub adds_kept : (al : Bool) (shared : List ℕ) (ss : List Slot) (slots : List (Option (List Bool))) (old mid new : Packed) → all_bits shared ss ≡ slots → Adds (field_list_at (Per.normally_few al (Per.bit_units (map is_there ss))) (place old)) old mid → Present al (all_bits shared ss) mid new → Adds (field_list_at (Per.additions al (as_open_types al slots)) (place old)) old new
-adds_kept al shared ss slots old mid new e a b = subst (λ l. Adds (field_list_at (Per.additions al (as_open_types al l)) (place old)) old new) e (adds_additions al (all_bits shared ss) (map is_there ss) old mid new (all_there ss) a b)
+pub adds_kept : (al : Bool) (shared : List ℕ) (ss : List Slot) (slots : List (Option (List Bool))) (old mid new : Packed) →
+    all_bits shared ss ≡ slots → Adds (field_list_at (Per.normally_few al (Per.bit_units (map is_there ss))) (place old)) old mid →
+    Present al (all_bits shared ss) mid new → Adds (field_list_at (Per.additions al (as_open_types al slots)) (place old)) old new
+adds_kept al shared ss slots old mid new e a b = subst (λ l. Adds (field_list_at (Per.additions al (as_open_types al l)) (place old)) old new) e
+    (adds_additions al (all_bits shared ss) (map is_there ss) old mid new (all_there ss) a b)
   where
     there : (s : Slot) → is_there s ≡ is_some (kept_bits shared s)
     there Absent = refl

@@ -1,5 +1,8 @@
 -- The characters of runs, one by one.
-use Rattle.std.proofs.Common.{◌≡◌, ◌⊎◌, ℕ, zero, suc, ◌+◌, ◌-◌, ◌<◌, ◌≤◌, leb, ltb, Bool, true, false, cond, ◌&&◌, List, [], ◌∷◌, ◌++◌, length, filter, drop, get_or, slice_set, take, Option, Some, option_map, refl, ap, sym, ◌∙◌, subst, inl, inr, append_assoc, length-append, length-drop, ◌==◌, arith}
+use Rattle.std.proofs.Common.{◌≡◌, ◌⊎◌, ℕ, zero, suc, ◌+◌, ◌-◌, ◌<◌, ◌≤◌, leb, ltb, Bool, true, false, cond, ◌&&◌, List}
+use Rattle.std.proofs.Common.{[], ◌∷◌, ◌++◌, length, filter, drop, get_or, slice_set, take, Option, Some, option_map}
+use Rattle.std.proofs.Common.{refl, ap, sym, ◌∙◌, subst, inl, inr, append_assoc, length-append, length-drop, ◌==◌}
+use Rattle.std.proofs.Common.{arith}
 use Rattle.std.specs.List.{All, Contains, range_with_len, sum_by}
 use Rattle.std.specs.List.Sorted.{IsPermutation}
 use Rattle.std.proofs.lemmas.Bool.{leb-true, leb-false, ltb-true, ltb-false, and_parts}
@@ -39,7 +42,8 @@ counted_only a (suc n) d h = step (front_or_behind a (range_with_len (a + 1) n) 
     step (inl p) k = (omega arith, omega arith)
     step (inr p) k = let q = k p in let r = q.0 in let s = q.1 in (omega arith, omega arith)
 
-counted_ascends : (a n : ℕ) (l : List ℕ) → are_ascending ltb l ≡ true → ((d : ℕ) → Contains l d → a + n ≤ d) → (are_ascending ltb (range_with_len a n ++ l) ≡ true) × ((d : ℕ) → Contains (range_with_len a n ++ l) d → a ≤ d)
+counted_ascends : (a n : ℕ) (l : List ℕ) → are_ascending ltb l ≡ true → ((d : ℕ) → Contains l d → a + n ≤ d) →
+    (are_ascending ltb (range_with_len a n ++ l) ≡ true) × ((d : ℕ) → Contains (range_with_len a n ++ l) d → a ≤ d)
 counted_ascends a zero l h f = (h, λ d i. let k = f d i in omega (arith, k))
 counted_ascends a (suc n) l h f =
     let rest = range_with_len (a + 1) n ++ l in
@@ -63,11 +67,13 @@ one_single xs s c f g =
     ap all_of (runs_behind xs (s ∷ [])) ∙ all_end (runs_of xs) (run_of s) ∙ ap (λ l. all_of (runs_of xs) ++ l) e
 
 -- after the last of a run
-pub one_longer : (xs : List CharacterRun) (r s : CharacterRun) (c : ℕ) → r.last + 1 ≡ c → r.first ≤ r.last → s.first ≡ r.first → s.last ≡ c → all_of (runs_of (xs ++ s ∷ [])) ≡ all_of (runs_of (xs ++ r ∷ [])) ++ c ∷ []
+pub one_longer : (xs : List CharacterRun) (r s : CharacterRun) (c : ℕ) → r.last + 1 ≡ c → r.first ≤ r.last → s.first ≡ r.first → s.last ≡ c →
+    all_of (runs_of (xs ++ s ∷ [])) ≡ all_of (runs_of (xs ++ r ∷ [])) ++ c ∷ []
 one_longer xs r s c e l f g =
     let many : s.last + 1 - s.first ≡ suc (r.last + 1 - r.first) = omega arith in
     let end : r.first + (r.last + 1 - r.first) ≡ c = omega arith in
-    let longer : each_of (run_of s) ≡ each_of (run_of r) ++ c ∷ [] = ap (λ n. range_with_len s.first n) many ∙ ap (λ a. range_with_len a (suc (r.last + 1 - r.first))) f ∙ counted_end r.first (r.last + 1 - r.first) ∙ ap (λ d. each_of (run_of r) ++ d ∷ []) end in
+    let longer : each_of (run_of s) ≡ each_of (run_of r) ++ c ∷ [] = ap (λ n. range_with_len s.first n) many ∙
+    ap (λ a. range_with_len a (suc (r.last + 1 - r.first))) f ∙ counted_end r.first (r.last + 1 - r.first) ∙ ap (λ d. each_of (run_of r) ++ d ∷ []) end in
     ap all_of (runs_behind xs (s ∷ [])) ∙ all_end (runs_of xs) (run_of s) ∙ ap (λ l. all_of (runs_of xs) ++ l) longer
     ∙ sym (append_assoc (all_of (runs_of xs)) (each_of (run_of r)) (c ∷ []))
     ∙ ap (λ l. l ++ c ∷ []) (sym (ap all_of (runs_behind xs (r ∷ [])) ∙ all_end (runs_of xs) (run_of r)))
@@ -95,7 +101,8 @@ last_one : (a b : ℕ) → a ≤ b → largest (singles (range_with_len a (b + 1
 last_one a b l =
     let n : b + 1 - a ≡ suc (b - a) = omega arith in
     let e : a + (b - a) ≡ b = omega arith in
-    ap (λ m. largest (singles (range_with_len a m))) n ∙ ap (λ l. largest (singles l)) (counted_end a (b - a)) ∙ ap largest (map_end (range_with_len a (b - a)) (a + (b - a))) ∙ largest_end (singles (range_with_len a (b - a))) (run (a + (b - a)) (a + (b - a))) ∙ e
+    ap (λ m. largest (singles (range_with_len a m))) n ∙ ap (λ l. largest (singles l)) (counted_end a (b - a)) ∙
+    ap largest (map_end (range_with_len a (b - a)) (a + (b - a))) ∙ largest_end (singles (range_with_len a (b - a))) (run (a + (b - a)) (a + (b - a))) ∙ e
 
 largest_all : (rs : List CharacterRun) → All HasSome rs → largest (runs_of rs) ≡ largest (singles (all_of (runs_of rs)))
 largest_all [] h = refl
@@ -127,7 +134,8 @@ place_counted c a (suc n) l =
     behind : option_map (λ i. a + 1 - a + i) (option_map (λ j. n + j) q) ≡ option_map (λ j. suc n + j) q
     behind = let e : a + 1 - a + n ≡ suc n = omega arith in more_map (a + 1 - a) n q ∙ ap (λ m. option_map (λ j. m + j) q) e
 
-    go : (x y z t u : Bool) → leb a c ≡ x → leb c a ≡ y → leb (a + 1) c ≡ z → ltb c (a + 1 + n) ≡ t → ltb c (a + suc n) ≡ u → cond (x && y) (Some (c - a)) (option_map (λ i. a + 1 - a + i) (cond (z && t) (Some (c - (a + 1))) (option_map (λ j. n + j) q))) ≡ cond (x && u) (Some (c - a)) (option_map (λ j. suc n + j) q)
+    go : (x y z t u : Bool) → leb a c ≡ x → leb c a ≡ y → leb (a + 1) c ≡ z → ltb c (a + 1 + n) ≡ t → ltb c (a + suc n) ≡ u →
+        cond (x && y) (Some (c - a)) (option_map (λ i. a + 1 - a + i) (cond (z && t) (Some (c - (a + 1))) (option_map (λ j. n + j) q))) ≡ cond (x && u) (Some (c - a)) (option_map (λ j. suc n + j) q)
     go true true z t true d e f g h = refl
     go true true z t false d e f g h = let p = leb-true c a e in let r = ltb-false c (a + suc n) h in absurd (omega (arith, p, r))
     go true false true true true d e f g h = let p = leb-true (a + 1) c f in ap Some (omega (arith, p))
@@ -162,7 +170,8 @@ same_listed rs h = record {
 }
 
 -- ---- runs that are apart
-all_ascend : (n : ℕ) (rs : List CharacterRun) → All HasSome rs → begin_from n (runs_of rs) ≡ true → (are_ascending ltb (all_of (runs_of rs)) ≡ true) × ((d : ℕ) → Contains (all_of (runs_of rs)) d → n ≤ d)
+all_ascend : (n : ℕ) (rs : List CharacterRun) → All HasSome rs → begin_from n (runs_of rs) ≡ true → (are_ascending ltb (all_of (runs_of rs)) ≡ true) ×
+    ((d : ℕ) → Contains (all_of (runs_of rs)) d → n ≤ d)
 all_ascend n [] h b = (refl, λ d i. none_in d i)
 all_ascend n (r ∷ rs) h b =
     let p = and_parts _ _ b in
@@ -177,9 +186,11 @@ has_it d r = cond (is_in_run d (run_of r)) 1 0
 
 all_counts : (d : ℕ) (rs : List CharacterRun) → Contains (all_of (runs_of rs)) d → 0 < sum_by (has_it d) rs
 all_counts d [] h = none_in d h
-all_counts d (r ∷ rs) h = subst (λ n. 0 < n) (sym (sum_by-cons (has_it d) r rs)) (step (leb r.first d) (leb d r.last) refl refl (Contains-append_cases (each_of (run_of r)) (all_of (runs_of rs)) d h) (all_counts d rs))
+all_counts d (r ∷ rs) h = subst (λ n. 0 < n) (sym (sum_by-cons (has_it d) r rs))
+    (step (leb r.first d) (leb d r.last) refl refl (Contains-append_cases (each_of (run_of r)) (all_of (runs_of rs)) d h) (all_counts d rs))
   where
-    step : (x y : Bool) → leb r.first d ≡ x → leb d r.last ≡ y → Contains (each_of (run_of r)) d ⊎ Contains (all_of (runs_of rs)) d → (Contains (all_of (runs_of rs)) d → 0 < sum_by (has_it d) rs) → 0 < cond (x && y) 1 0 + sum_by (has_it d) rs
+    step : (x y : Bool) → leb r.first d ≡ x → leb d r.last ≡ y → Contains (each_of (run_of r)) d ⊎ Contains (all_of (runs_of rs)) d →
+        (Contains (all_of (runs_of rs)) d → 0 < sum_by (has_it d) rs) → 0 < cond (x && y) 1 0 + sum_by (has_it d) rs
     step true true e f i k = omega arith
     step true false e f (inl i) k = let p = (counted_only r.first (r.last + 1 - r.first) d i).1 in let q = leb-false d r.last f in let m = leb-true r.first d e in absurd (omega (arith, p, q, m))
     step true false e f (inr i) k = let m = k i in omega (arith, m)
@@ -193,8 +204,10 @@ count_in_all d (r ∷ rs) h = step (leb r.first d) (leb d r.last) refl refl (sub
     behind : Contains (all_of (runs_of rs)) d → Contains (all_of (runs_of (r ∷ rs))) d
     behind i = Contains-append_right (each_of (run_of r)) (all_of (runs_of rs)) d i
 
-    step : (x y : Bool) → leb r.first d ≡ x → leb d r.last ≡ y → 0 < cond (x && y) 1 0 + sum_by (has_it d) rs → (0 < sum_by (has_it d) rs → Contains (all_of (runs_of rs)) d) → Contains (all_of (runs_of (r ∷ rs))) d
-    step true true e f i k = let p = leb-true r.first d e in let q = leb-true d r.last f in Contains-append_left (each_of (run_of r)) (all_of (runs_of rs)) d (counted_has r.first (r.last + 1 - r.first) d p (omega (arith, p, q)))
+    step : (x y : Bool) → leb r.first d ≡ x → leb d r.last ≡ y → 0 < cond (x && y) 1 0 + sum_by (has_it d) rs →
+        (0 < sum_by (has_it d) rs → Contains (all_of (runs_of rs)) d) → Contains (all_of (runs_of (r ∷ rs))) d
+    step true true e f i k = let p = leb-true r.first d e in let q = leb-true d r.last f in
+        Contains-append_left (each_of (run_of r)) (all_of (runs_of rs)) d (counted_has r.first (r.last + 1 - r.first) d p (omega (arith, p, q)))
     step true false e f i k = behind (k (omega (arith, i)))
     step false y e f i k = behind (k (omega (arith, i)))
 
@@ -245,7 +258,8 @@ few_sorted test cs rs k =
 -- ---- runs in the first positions of an array
 
 -- a character after the last of them
-pub end_longer : (rs : List CharacterRun) (n c : ℕ) (d s : CharacterRun) → 0 < n → n ≤ length rs → All HasSome (take n rs) → (get_or rs (n - 1) d).last + 1 ≡ c → s.first ≡ (get_or rs (n - 1) d).first → s.last ≡ c → all_of (runs_of (take n (slice_set rs (n - 1) s))) ≡ all_of (runs_of (take n rs)) ++ c ∷ []
+pub end_longer : (rs : List CharacterRun) (n c : ℕ) (d s : CharacterRun) → 0 < n → n ≤ length rs → All HasSome (take n rs) →
+    (get_or rs (n - 1) d).last + 1 ≡ c → s.first ≡ (get_or rs (n - 1) d).first → s.last ≡ c → all_of (runs_of (take n (slice_set rs (n - 1) s))) ≡ all_of (runs_of (take n rs)) ++ c ∷ []
 end_longer rs n c d s some within h follows f g =
     let m : ℕ = n - 1 in
     let e : m + 1 ≡ n = omega arith in
@@ -259,7 +273,8 @@ end_longer rs n c d s some within h follows f g =
     ap (λ l. all_of (runs_of l)) x ∙ one_longer (take m rs) r s c follows has f g ∙ ap (λ l. all_of (runs_of l) ++ c ∷ []) (sym y)
 
 -- a run of one character after them
-pub end_single : (rs : List CharacterRun) (n c : ℕ) (s : CharacterRun) → n < length rs → s.first ≡ c → s.last ≡ c → all_of (runs_of (take (n + 1) (slice_set rs n s))) ≡ all_of (runs_of (take n rs)) ++ c ∷ []
+pub end_single : (rs : List CharacterRun) (n c : ℕ) (s : CharacterRun) → n < length rs → s.first ≡ c → s.last ≡ c →
+    all_of (runs_of (take (n + 1) (slice_set rs n s))) ≡ all_of (runs_of (take n rs)) ++ c ∷ []
 end_single rs n c s h f g = ap (λ l. all_of (runs_of l)) (take_more_set rs n s h) ∙ one_single (take n rs) s c f g
 
 pub more_few : (rs : List CharacterRun) (n : ℕ) (s : CharacterRun) → n < 8 → HasSome s → AreFew rs n → AreFew (slice_set rs n s) (n + 1)

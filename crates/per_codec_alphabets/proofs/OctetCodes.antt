@@ -90,7 +90,8 @@ placed c (r ∷ rs) h = go (is_in_run c r) (placed c rs) h
     behind None e = cc
     behind (Some i) e = refl
 
-    go : (t : Bool) → (is_among rs c ≡ true → is_some (place_of c rs) ≡ true) → (t || is_among rs c) ≡ true → is_some (cond t (Some (c - r.first)) (option_map (λ i. r.last + 1 - r.first + i) (place_of c rs))) ≡ true
+    go : (t : Bool) → (is_among rs c ≡ true → is_some (place_of c rs) ≡ true) → (t || is_among rs c) ≡ true →
+        is_some (cond t (Some (c - r.first)) (option_map (λ i. r.last + 1 - r.first + i) (place_of c rs))) ≡ true
     go true k e = refl
     go false k e = behind (place_of c rs) (k e)
 
@@ -159,7 +160,8 @@ pub has_codes : (al : Bool) (k : StringKind) (z : Option (Extensible Size)) (a :
 has_codes al k z a e = without k (asked al k z a e).codes
 
 -- Characters of the kind are encoded as octets, after a length determinant.
-pub as_octets : (al : Bool) (k : StringKind) (z : Option (Extensible Size)) (a : Option (Extensible PermittedAlphabet)) (cs : List ℕ) → is_encoded_as_octets al k z a ≡ true → list_all (is_among (characters_of k)) cs ≡ true → Per.characters al (sizes_of z) any_count (permitted k (alphabet_of a)) cs ≡ Per.counted_octets al cs
+pub as_octets : (al : Bool) (k : StringKind) (z : Option (Extensible Size)) (a : Option (Extensible PermittedAlphabet)) (cs : List ℕ) →
+    is_encoded_as_octets al k z a ≡ true → list_all (is_among (characters_of k)) cs ≡ true → Per.characters al (sizes_of z) any_count (permitted k (alphabet_of a)) cs ≡ Per.counted_octets al cs
 unfolding Per.characters Per.counted_octets
 as_octets al k z a cs e h =
     let q = asked al k z a e in

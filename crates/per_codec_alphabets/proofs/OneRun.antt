@@ -27,9 +27,11 @@ all_kept test a zero h = refl
 all_kept test a (suc n) h = rw (h a (omega arith) (omega arith)) (ap (λ l. a ∷ l) (all_kept test (a + 1) n (λ c p q. h c (omega arith) (omega arith))))
 
 -- those of one run that a kind has
-pub single_kept : (k : StringKind) (r : CharacterRun) (cs : List ℕ) → r.first ≤ r.last → cs ≡ each_of (run_of r) → ((c : ℕ) → r.first ≤ c → c ≤ r.last → is_among (characters_of k) c ≡ true) → AreKept k cs (run_of r ∷ [])
+pub single_kept : (k : StringKind) (r : CharacterRun) (cs : List ℕ) → r.first ≤ r.last → cs ≡ each_of (run_of r) →
+    ((c : ℕ) → r.first ≤ c → c ≤ r.last → is_among (characters_of k) c ≡ true) → AreKept k cs (run_of r ∷ [])
 single_kept k r cs some e h =
-    let all : kept k cs ≡ all_of (runs_of (r ∷ [])) = ap (kept k) e ∙ all_kept (is_among (characters_of k)) r.first (r.last + 1 - r.first) (λ c p q. h c p (omega arith)) ∙ sym (append-nil (each_of (run_of r))) in
+    let all : kept k cs ≡ all_of (runs_of (r ∷ [])) = ap (kept k) e ∙
+    all_kept (is_among (characters_of k)) r.first (r.last + 1 - r.first) (λ c p q. h c p (omega arith)) ∙ sym (append-nil (each_of (run_of r))) in
     rw all (same_in_order (r ∷ []) (r ∷ []) (IsPermutation-refl (r ∷ [])) has_some (and_from _ _ (le-leb 0 r.first (omega arith)) refl))
   where
     has_some : All HasSome (r ∷ [])

@@ -1,5 +1,7 @@
 -- Indices among runs.
-use Rattle.std.proofs.Common.{◌≡◌, ℕ, zero, suc, ◌+◌, ◌-◌, ◌^◌, ◌<◌, ◌≤◌, leb, ltb, Bool, true, false, cond, ◌&&◌, List, [], ◌∷◌, ◌++◌, length, filter, take, get_or, Option, Some, None, option_map, refl, ap, sym, ◌∙◌, append_assoc, arith}
+use Rattle.std.proofs.Common.{◌≡◌, ℕ, zero, suc, ◌+◌, ◌-◌, ◌^◌, ◌<◌, ◌≤◌, leb, ltb, Bool, true, false, cond, ◌&&◌, List}
+use Rattle.std.proofs.Common.{[], ◌∷◌, ◌++◌, length, filter, take, get_or, Option, Some, None, option_map, refl, ap}
+use Rattle.std.proofs.Common.{sym, ◌∙◌, append_assoc, arith}
 use Rattle.std.proofs.lemmas.Bool.{leb-true, leb-false, lt-ltb, le-ltb}
 use Rattle.std.proofs.lemmas.List.{take_more}
 use Rattle.asn1_model.specs.Strings.{Run, run, how_many, largest, place_of, is_in_run}
@@ -19,7 +21,8 @@ pub character_at-place : (c i : ℕ) (rs : List Run) → place_of c rs ≡ Some 
 character_at-place c i [] e = cc
 character_at-place c i (r ∷ rs) e = go (leb r.first c) (leb c r.last) refl refl (place_of c rs) (λ j f. character_at-place c j rs f) e
   where
-    behind : (o : Option ℕ) → ((j : ℕ) → o ≡ Some j → character_at rs j ≡ Some c) → option_map (λ j. r.last + 1 - r.first + j) o ≡ Some i → cond (ltb i (r.last + 1 - r.first)) (Some (r.first + i)) (character_at rs (i - (r.last + 1 - r.first))) ≡ Some c
+    behind : (o : Option ℕ) → ((j : ℕ) → o ≡ Some j → character_at rs j ≡ Some c) → option_map (λ j. r.last + 1 - r.first + j) o ≡ Some i →
+        cond (ltb i (r.last + 1 - r.first)) (Some (r.first + i)) (character_at rs (i - (r.last + 1 - r.first))) ≡ Some c
     behind None k f = cc
     behind (Some j) k f =
         let n : r.last + 1 - r.first + j ≡ i = some_same f in
@@ -27,7 +30,9 @@ character_at-place c i (r ∷ rs) e = go (leb r.first c) (leb c r.last) refl ref
         let t : ltb i (r.last + 1 - r.first) ≡ false = le-ltb _ _ (omega arith) in
         rw (t, m) (k j refl)
 
-    go : (x y : Bool) → leb r.first c ≡ x → leb c r.last ≡ y → (o : Option ℕ) → ((j : ℕ) → o ≡ Some j → character_at rs j ≡ Some c) → cond (x && y) (Some (c - r.first)) (option_map (λ j. r.last + 1 - r.first + j) o) ≡ Some i → cond (ltb i (r.last + 1 - r.first)) (Some (r.first + i)) (character_at rs (i - (r.last + 1 - r.first))) ≡ Some c
+    go : (x y : Bool) → leb r.first c ≡ x → leb c r.last ≡ y → (o : Option ℕ) → ((j : ℕ) → o ≡ Some j → character_at rs j ≡ Some c) →
+        cond (x && y) (Some (c - r.first)) (option_map (λ j. r.last + 1 - r.first + j) o) ≡ Some i →
+        cond (ltb i (r.last + 1 - r.first)) (Some (r.first + i)) (character_at rs (i - (r.last + 1 - r.first))) ≡ Some c
     go true true p q o k f =
         let l = leb-true r.first c p in
         let h = leb-true c r.last q in
@@ -73,7 +78,8 @@ ends rs r = rs ++ r ∷ []
 in_longer : (a b c : ℕ) → a ≤ b + 1 → place_of c (run a b ∷ run (b + 1) (b + 1) ∷ []) ≡ place_of c (run a (b + 1) ∷ [])
 in_longer a b c l = go (leb a c) (leb c b) (leb (b + 1) c) (leb c (b + 1)) refl refl refl refl
   where
-    go : (x y z t : Bool) → leb a c ≡ x → leb c b ≡ y → leb (b + 1) c ≡ z → leb c (b + 1) ≡ t → cond (x && y) (Some (c - a)) (option_map (λ i. b + 1 - a + i) (cond (z && t) (Some (c - (b + 1))) None)) ≡ cond (x && t) (Some (c - a)) None
+    go : (x y z t : Bool) → leb a c ≡ x → leb c b ≡ y → leb (b + 1) c ≡ z → leb c (b + 1) ≡ t →
+        cond (x && y) (Some (c - a)) (option_map (λ i. b + 1 - a + i) (cond (z && t) (Some (c - (b + 1))) None)) ≡ cond (x && t) (Some (c - a)) None
     go true true z true e f g h = refl
     go true true z false e f g h = let p = leb-true c b f in let q = leb-false c (b + 1) h in absurd (omega arith)
     go true false true true e f g h = let p = leb-true (b + 1) c g in ap Some (omega arith)
@@ -102,10 +108,13 @@ runs_behind [] ys = refl
 runs_behind (x ∷ xs) ys = ap (λ rs. run_of x ∷ rs) (runs_behind xs ys)
 
 -- A run and the character after it are one run.
-pub joined : (xs : List CharacterRun) (r s : CharacterRun) (c : ℕ) → r.last + 1 ≡ c → r.first ≤ c → s.first ≡ r.first → s.last ≡ c → SameCharacters (runs_of (xs ++ s ∷ [])) (runs_of (xs ++ r ∷ []) ++ run c c ∷ [])
+pub joined : (xs : List CharacterRun) (r s : CharacterRun) (c : ℕ) → r.last + 1 ≡ c → r.first ≤ c → s.first ≡ r.first → s.last ≡ c →
+    SameCharacters (runs_of (xs ++ s ∷ [])) (runs_of (xs ++ r ∷ []) ++ run c c ∷ [])
 joined xs r s c e l f g =
-    let x : runs_of (xs ++ s ∷ []) ≡ runs_of xs ++ run r.first (r.last + 1) ∷ [] = runs_behind xs (s ∷ []) ∙ ap (λ a. runs_of xs ++ run a s.last ∷ []) f ∙ ap (λ b. runs_of xs ++ run r.first b ∷ []) (g ∙ sym e) in
-    let y : runs_of (xs ++ r ∷ []) ++ run c c ∷ [] ≡ runs_of xs ++ run r.first r.last ∷ run (r.last + 1) (r.last + 1) ∷ [] = ap (λ rs. rs ++ run c c ∷ []) (runs_behind xs (r ∷ [])) ∙ append_assoc (runs_of xs) (run_of r ∷ []) (run c c ∷ []) ∙ ap (λ d. runs_of xs ++ run r.first r.last ∷ run d d ∷ []) (sym e) in
+    let x : runs_of (xs ++ s ∷ []) ≡ runs_of xs ++ run r.first (r.last + 1) ∷ [] = runs_behind xs (s ∷ []) ∙
+    ap (λ a. runs_of xs ++ run a s.last ∷ []) f ∙ ap (λ b. runs_of xs ++ run r.first b ∷ []) (g ∙ sym e) in
+    let y : runs_of (xs ++ r ∷ []) ++ run c c ∷ [] ≡ runs_of xs ++ run r.first r.last ∷ run (r.last + 1) (r.last + 1) ∷ [] =
+    ap (λ rs. rs ++ run c c ∷ []) (runs_behind xs (r ∷ [])) ∙ append_assoc (runs_of xs) (run_of r ∷ []) (run c c ∷ []) ∙ ap (λ d. runs_of xs ++ run r.first r.last ∷ run d d ∷ []) (sym e) in
     let m : r.first ≤ r.last + 1 = omega arith in
     rw (x, y) (record {
       many = many_joined r.first r.last (runs_of xs) m;
@@ -151,13 +160,15 @@ in_first false a b n p q = behind_step b n p q
 
 place_end : (c : ℕ) (rs ss : List Run) → place_of c (rs ++ ss) ≡ or_behind (how_many rs) (place_of c rs) (place_of c ss)
 place_end c [] ss = none_added (place_of c ss)
-place_end c (r ∷ rs) ss = ap (λ p. cond (is_in_run c r) (Some (c - r.first)) (option_map (λ j. r.last + 1 - r.first + j) p)) (place_end c rs ss) ∙ in_first (is_in_run c r) (c - r.first) (r.last + 1 - r.first) (how_many rs) (place_of c rs) (place_of c ss)
+place_end c (r ∷ rs) ss = ap (λ p. cond (is_in_run c r) (Some (c - r.first)) (option_map (λ j. r.last + 1 - r.first + j) p)) (place_end c rs ss) ∙
+    in_first (is_in_run c r) (c - r.first) (r.last + 1 - r.first) (how_many rs) (place_of c rs) (place_of c ss)
 
 pub same_more : (rs ss ts : List Run) (r : Run) → SameCharacters rs ss → SameCharacters ts (rs ++ r ∷ []) → SameCharacters ts (ss ++ r ∷ [])
 same_more rs ss ts r h k = record {
   many = k.many ∙ many_more rs ss r h.many;
   greatest = k.greatest ∙ largest_end rs r ∙ sym (largest_end ss r);
-  places = λ c. k.places c ∙ place_end c rs (r ∷ []) ∙ ap (λ n. or_behind n (place_of c rs) (place_of c (r ∷ []))) h.many ∙ ap (λ p. or_behind (how_many ss) p (place_of c (r ∷ []))) (h.places c) ∙ sym (place_end c ss (r ∷ []));
+  places = λ c. k.places c ∙ place_end c rs (r ∷ []) ∙ ap (λ n. or_behind n (place_of c rs) (place_of c (r ∷ []))) h.many ∙
+      ap (λ p. or_behind (how_many ss) p (place_of c (r ∷ []))) (h.places c) ∙ sym (place_end c ss (r ∷ []));
 }
 
 -- ---- characters that a test leaves
@@ -169,7 +180,8 @@ filter_end : (test : ℕ → Bool) (cs : List ℕ) (c : ℕ) → filter test (cs
 filter_end test [] c = refl
 filter_end test (d ∷ cs) c = ap (λ l. cond (test d) (d ∷ l) l) (filter_end test cs c) ∙ go (test d) (test c)
   where
-    go : (x y : Bool) → cond x (d ∷ cond y (filter test cs ++ c ∷ []) (filter test cs)) (cond y (filter test cs ++ c ∷ []) (filter test cs)) ≡ cond y (cond x (d ∷ filter test cs) (filter test cs) ++ c ∷ []) (cond x (d ∷ filter test cs) (filter test cs))
+    go : (x y : Bool) → cond x (d ∷ cond y (filter test cs ++ c ∷ []) (filter test cs)) (cond y (filter test cs ++ c ∷ []) (filter test cs))
+        ≡ cond y (cond x (d ∷ filter test cs) (filter test cs) ++ c ∷ []) (cond x (d ∷ filter test cs) (filter test cs))
     go true true = refl
     go true false = refl
     go false true = refl
@@ -177,27 +189,37 @@ filter_end test (d ∷ cs) c = ap (λ l. cond (test d) (d ∷ l) l) (filter_end 
 
 pub filter_more : (test : ℕ → Bool) (cs : List ℕ) (i c : ℕ) → i < length cs → c ≡ get_or cs i 0 → test c ≡ true → filter test (take (i + 1) cs) ≡ filter test (take i cs) ++ c ∷ []
 filter_more test cs i c h e t =
-    ap (filter test) (take_more cs i 0 h) ∙ filter_end test (take i cs) (get_or cs i 0) ∙ ap (λ d. cond (test d) (filter test (take i cs) ++ d ∷ []) (filter test (take i cs))) (sym e) ∙ ap (λ b. cond b (filter test (take i cs) ++ c ∷ []) (filter test (take i cs))) t
+    ap (filter test) (take_more cs i 0 h) ∙ filter_end test (take i cs) (get_or cs i 0) ∙
+    ap (λ d. cond (test d) (filter test (take i cs) ++ d ∷ []) (filter test (take i cs))) (sym e) ∙ ap (λ b. cond b (filter test (take i cs) ++ c ∷ []) (filter test (take i cs))) t
 
 pub filter_same : (test : ℕ → Bool) (cs : List ℕ) (i c : ℕ) → i < length cs → c ≡ get_or cs i 0 → test c ≡ false → filter test (take (i + 1) cs) ≡ filter test (take i cs)
 filter_same test cs i c h e t =
-    ap (filter test) (take_more cs i 0 h) ∙ filter_end test (take i cs) (get_or cs i 0) ∙ ap (λ d. cond (test d) (filter test (take i cs) ++ d ∷ []) (filter test (take i cs))) (sym e) ∙ ap (λ b. cond b (filter test (take i cs) ++ c ∷ []) (filter test (take i cs))) t
+    ap (filter test) (take_more cs i 0 h) ∙ filter_end test (take i cs) (get_or cs i 0) ∙
+    ap (λ d. cond (test d) (filter test (take i cs) ++ d ∷ []) (filter test (take i cs))) (sym e) ∙ ap (λ b. cond b (filter test (take i cs) ++ c ∷ []) (filter test (take i cs))) t
 
-left_end : (test : ℕ → Bool) (cs : List ℕ) (i d : ℕ) → i < length cs → singles (filter test (take (i + 1) cs)) ≡ cond (test (get_or cs i d)) (singles (filter test (take i cs)) ++ run (get_or cs i d) (get_or cs i d) ∷ []) (singles (filter test (take i cs)))
+left_end : (test : ℕ → Bool) (cs : List ℕ) (i d : ℕ) → i < length cs → singles (filter test (take (i + 1) cs))
+    ≡ cond (test (get_or cs i d)) (singles (filter test (take i cs)) ++ run (get_or cs i d) (get_or cs i d) ∷ []) (singles (filter test (take i cs)))
 left_end test cs i d h = ap (λ l. singles (filter test l)) (take_more cs i d h) ∙ ap singles (filter_end test (take i cs) (get_or cs i d)) ∙ go (test (get_or cs i d))
   where
-    go : (x : Bool) → singles (cond x (filter test (take i cs) ++ get_or cs i d ∷ []) (filter test (take i cs))) ≡ cond x (singles (filter test (take i cs)) ++ run (get_or cs i d) (get_or cs i d) ∷ []) (singles (filter test (take i cs)))
+    go : (x : Bool) → singles (cond x (filter test (take i cs) ++ get_or cs i d ∷ []) (filter test (take i cs)))
+        ≡ cond x (singles (filter test (take i cs)) ++ run (get_or cs i d) (get_or cs i d) ∷ []) (singles (filter test (take i cs)))
     go true = map_end (filter test (take i cs)) (get_or cs i d)
     go false = refl
 
-pub one_kept : (test : ℕ → Bool) (cs : List ℕ) (i c : ℕ) (rs ts : List Run) → i < length cs → c ≡ get_or cs i 0 → test c ≡ true → SameCharacters rs (singles (filter test (take i cs))) → SameCharacters ts (rs ++ run c c ∷ []) → SameCharacters ts (singles (filter test (take (i + 1) cs)))
+pub one_kept : (test : ℕ → Bool) (cs : List ℕ) (i c : ℕ) (rs ts : List Run) → i < length cs → c ≡ get_or cs i 0 → test c ≡ true →
+    SameCharacters rs (singles (filter test (take i cs))) → SameCharacters ts (rs ++ run c c ∷ []) → SameCharacters ts (singles (filter test (take (i + 1) cs)))
 one_kept test cs i c rs ts h e t k l =
-    let x : singles (filter test (take (i + 1) cs)) ≡ singles (filter test (take i cs)) ++ run c c ∷ [] = left_end test cs i 0 h ∙ ap (λ d. cond (test d) (singles (filter test (take i cs)) ++ run d d ∷ []) (singles (filter test (take i cs)))) (sym e) ∙ ap (λ b. cond b (singles (filter test (take i cs)) ++ run c c ∷ []) (singles (filter test (take i cs)))) t in
+    let x : singles (filter test (take (i + 1) cs)) ≡ singles (filter test (take i cs)) ++ run c c ∷ [] = left_end test cs i 0 h ∙
+    ap (λ d. cond (test d) (singles (filter test (take i cs)) ++ run d d ∷ []) (singles (filter test (take i cs)))) (sym e) ∙
+    ap (λ b. cond b (singles (filter test (take i cs)) ++ run c c ∷ []) (singles (filter test (take i cs)))) t in
     rw x (same_more rs (singles (filter test (take i cs))) ts (run c c) k l)
 
-pub one_left : (test : ℕ → Bool) (cs : List ℕ) (i c : ℕ) (rs : List Run) → i < length cs → c ≡ get_or cs i 0 → test c ≡ false → SameCharacters rs (singles (filter test (take i cs))) → SameCharacters rs (singles (filter test (take (i + 1) cs)))
+pub one_left : (test : ℕ → Bool) (cs : List ℕ) (i c : ℕ) (rs : List Run) → i < length cs → c ≡ get_or cs i 0 → test c ≡ false →
+    SameCharacters rs (singles (filter test (take i cs))) → SameCharacters rs (singles (filter test (take (i + 1) cs)))
 one_left test cs i c rs h e t k =
-    let x : singles (filter test (take (i + 1) cs)) ≡ singles (filter test (take i cs)) = left_end test cs i 0 h ∙ ap (λ d. cond (test d) (singles (filter test (take i cs)) ++ run d d ∷ []) (singles (filter test (take i cs)))) (sym e) ∙ ap (λ b. cond b (singles (filter test (take i cs)) ++ run c c ∷ []) (singles (filter test (take i cs)))) t in
+    let x : singles (filter test (take (i + 1) cs)) ≡ singles (filter test (take i cs)) = left_end test cs i 0 h ∙
+    ap (λ d. cond (test d) (singles (filter test (take i cs)) ++ run d d ∷ []) (singles (filter test (take i cs)))) (sym e) ∙
+    ap (λ b. cond b (singles (filter test (take i cs)) ++ run c c ∷ []) (singles (filter test (take i cs)))) t in
     rw x k
 
 pub few_left : (test : ℕ → Bool) (cs : List ℕ) (rs : List Run) → SameCharacters rs (singles (filter test cs)) → how_many rs ≤ length cs

@@ -60,7 +60,8 @@ left_ascends test (c ∷ cs) h = step (test c) (left_ascends test cs (rest_ascen
 
 -- a test leaves of the characters in order what is left of them, in order
 pub sorted_left : (test : ℕ → Bool) (cs : List ℕ) → filter test (sorted cs) ≡ sorted (filter test cs)
-sorted_left test cs = same_ascending (filter test (sorted cs)) (sorted (filter test cs)) (left_ascends test (sorted cs) (order_ascends cs)) (order_ascends (filter test cs)) (λ d h. there d (left_only test (sorted cs) d h)) (λ d h. back d (left_only test cs d (order_only (filter test cs) d h)))
+sorted_left test cs = same_ascending (filter test (sorted cs)) (sorted (filter test cs)) (left_ascends test (sorted cs) (order_ascends cs))
+    (order_ascends (filter test cs)) (λ d h. there d (left_only test (sorted cs) d h)) (λ d h. back d (left_only test cs d (order_only (filter test cs) d h)))
   where
     there : (d : ℕ) → Contains (sorted cs) d × (test d ≡ true) → Contains (sorted (filter test cs)) d
     there d p = order_has (filter test cs) d (left_has test cs d p.1 (order_only cs d p.0))
@@ -72,7 +73,10 @@ sorted_left test cs = same_ascending (filter test (sorted cs)) (sorted (filter t
 increasing_ascends : (cs : List ℕ) → IsStrictlyIncreasing cs → are_ascending ltb cs ≡ true
 increasing_ascends [] h = refl
 increasing_ascends (c ∷ []) h = refl
-increasing_ascends (c ∷ d ∷ cs) h = and_from _ _ (lt-ltb c d (h 0 (omega arith))) (increasing_ascends (d ∷ cs) (λ k l. let e : suc k + 1 ≡ suc (k + 1) = omega arith in subst (λ j. slice_index (c ∷ d ∷ cs) (suc k) < slice_index (c ∷ d ∷ cs) j) e (h (suc k) (omega arith))))
+increasing_ascends (c ∷ d ∷ cs) h = and_from _ _ (lt-ltb c d (h 0 (omega arith)))
+    (increasing_ascends (d ∷ cs) (λ k l. let e : suc k + 1 ≡ suc (k + 1) = omega arith in subst (λ j. slice_index (c ∷ d ∷ cs) (suc k) < slice_index (c ∷ d ∷ cs) j) e (h (suc k) (omega arith))))
 
 pub put_in_order : (cs ds : List ℕ) → IsPermutation cs ds → IsSorted nat_cmp ds → dedup eqb ds ≡ sorted cs
-put_in_order cs ds p s = same_ascending (dedup eqb ds) (sorted cs) (increasing_ascends (dedup eqb ds) (IsStrictlyIncreasing-dedup ds s)) (order_ascends cs) (λ x h. order_has cs x (Contains-permutation ds cs x (IsPermutation-sym cs ds p) (Contains-from_dedup eqb ds x h))) (λ x h. Contains-dedup_nat ds x (Contains-permutation cs ds x p (order_only cs x h)))
+put_in_order cs ds p s = same_ascending (dedup eqb ds) (sorted cs) (increasing_ascends (dedup eqb ds) (IsStrictlyIncreasing-dedup ds s))
+    (order_ascends cs) (λ x h. order_has cs x (Contains-permutation ds cs x (IsPermutation-sym cs ds p) (Contains-from_dedup eqb ds x h)))
+    (λ x h. Contains-dedup_nat ds x (Contains-permutation cs ds x p (order_only cs x h)))

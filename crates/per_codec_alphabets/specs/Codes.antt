@@ -4,6 +4,7 @@ use Rattle.std.specs.Prelude.{Option, Some, None, is_some, option_map, unwrap_or
 use Rattle.asn1_model.specs.Numbers.{binary}
 use Rattle.asn1_model.specs.Schema.{StringKind}
 use Rattle.asn1_model.specs.Strings.{Run, run, characters_of, is_among, how_many, largest, place_of, sorted}
+pub use Rattle.asn1_values_alphabets.specs.Codes.{singles}
 use Rattle.per_codec_alphabets.specs.declared.runs.CharacterRun.{CharacterRun}
 use Rattle.per_codec_alphabets.specs.declared.single.CodedRun.{CodedRun}
 
@@ -14,10 +15,6 @@ run_of r = record { first = r.first; last = r.last }
 -- The same for several runs.
 abbrev pub runs_of : List CharacterRun → List Run
 runs_of rs = map run_of rs
-
--- Each character as a run of one.
-abbrev pub singles : List ℕ → List Run
-singles cs = map (λ c. run c c) cs
 
 -- Those of the characters that a kind of string has (X.680 41 and 43).
 abbrev pub kept : StringKind → List ℕ → List ℕ

@@ -14,7 +14,10 @@ use Rattle.asn1_schema_decode.specs.Reads.{NoRecord}
 use Rattle.asn1_schema_lacking_laws.specs.Carried.{AtOnce}
 use Rattle.asn1_schema_decode.proofs.AtOnce.{none_at_once}
 use Rattle.asn1_schema_errors.specs.declared.DecodeError.{DecodeError}
-use Rattle.asn1_schema_laws.specs.Records.{Record, Question, question, flag, nil, whole, one_of, bits, octets, characters, identifier, further, presence_bit, asks_flag, asks_nil, asks_whole, asks_one_of, asks_bits, asks_octets, asks_characters, asks_identifier, asks_further, asks_presence_bit}
+use Rattle.asn1_schema_laws.specs.Records.{Record, Question, question, flag, nil, whole, one_of, bits, octets}
+use Rattle.asn1_schema_laws.specs.Records.{characters, identifier, further, presence_bit, asks_flag, asks_nil}
+use Rattle.asn1_schema_laws.specs.Records.{asks_whole, asks_one_of, asks_bits, asks_octets, asks_characters}
+use Rattle.asn1_schema_laws.specs.Records.{asks_identifier, asks_further, asks_presence_bit}
 use Rattle.per_codec_laws.specs.Takes.{Position, Scope, components, State, Front, Found, NextMember, NextPresenceBit, Begins, Takes}
 use Rattle.per_codec_laws.proofs.Fronts.{if_out}
 use Rattle.per_codec_reading.specs.Fronts.{freedoms, is_aligned, Misses}
@@ -65,16 +68,20 @@ module _ (al : Bool) (free : Per.Freedom → Bool) (a b : State) where
   asked_identifier r k t = cc k
 
 -- no value of a type is found if the bits do not begin with one
-pub none_found : {failed : Held} (old now : Held) (q : Question) (s : Schema) (e x : DecodeError) → now ≡ old → x ≡ e → Misses (freedoms now.rules) (Per.form (is_aligned now.rules) s) now.place e → ((al : Bool) (free : Per.Freedom → Bool) (a b : State) (r : Record) → question r ≡ q → Takes al free a r b → OfType al free a b s) → NoRecord Finds AtOnce q old failed x
+pub none_found : {failed : Held} (old now : Held) (q : Question) (s : Schema) (e x : DecodeError) → now ≡ old → x ≡ e →
+    Misses (freedoms now.rules) (Per.form (is_aligned now.rules) s) now.place e →
+    ((al : Bool) (free : Per.Freedom → Bool) (a b : State) (r : Record) → question r ≡ q → Takes al free a r b → OfType al free a b s) → NoRecord Finds AtOnce q old failed x
 none_found old now q s e x same faults m asked =
     let n : Misses (freedoms old.rules) (Per.form (is_aligned old.rules) s) old.place e = subst (λ (h : Held). Misses (freedoms h.rules) (Per.form (is_aligned h.rules) s) h.place e) same m in
-    none_at_once Finds (λ i r new k p. let t = asked (is_aligned old.rules) (freedoms old.rules) (state_of old) (state_of new) r k p.taken in missed (freedoms old.rules) (Per.form (is_aligned old.rules) s) old.place e n (λ y. i (faults ∙ y)) t.0 new.place t.1.0)
+    none_at_once Finds (λ i r new k p. let t = asked (is_aligned old.rules) (freedoms old.rules) (state_of old) (state_of new) r k p.taken in
+    missed (freedoms old.rules) (Per.form (is_aligned old.rules) s) old.place e n (λ y. i (faults ∙ y)) t.0 new.place t.1.0)
 
 -- ---- what a form says of a value
 module _ (free : Per.Freedom → Bool) (al : Bool) (a b : Position) where
   pub octets_within : (z : Size) (h : Counts) (v : List ℕ) → Front free (Per.form al (octet_string z h) (octet_list v)) a b → is_count_within h (length v) ≡ true
   unfolding Per.form Per.sized
-  octets_within z h v f = subst (λ n. is_count_within h n ≡ true) (length_of_map _ v) (if_out free (is_count_within h (length (Per.octet_units v))) _ a b (if_out free (list_all is_octet v) _ a b f).1).0
+  octets_within z h v f = subst (λ n. is_count_within h n ≡ true) (length_of_map _ v)
+      (if_out free (is_count_within h (length (Per.octet_units v))) _ a b (if_out free (list_all is_octet v) _ a b f).1).0
 
   pub bits_within : (z : Size) (h : Counts) (v : List Bool) → Front free (Per.form al (bit_string z h) (bit_list v)) a b → is_count_within h (length v) ≡ true
   unfolding Per.form Per.sized
@@ -94,9 +101,13 @@ pub both_ok : {A E : Type 0} {P Q R : Type 0} (r : Result A E) → OnOk r P → 
 both_ok (Ok x) p q f = f p q
 both_ok (Err e) p q f = tt
 
-pub opens : (old now new : Held) (s : Scope) (rest : Position) (r : Record) → now ≡ old → IsReady old → Takes (is_aligned now.rules) (freedoms now.rules) (state_of now) r (rest, s ∷ now.scopes) → ((most l : ℕ) → level most r (suc l) ≡ Some l) → old.stands ≡ kept old r new.place new.scopes → now.levels ≡ new.levels + 1 → new ≡ record { place = rest; scopes = s ∷ now.scopes; levels = new.levels; most = now.most; failed = now.failed; rules = now.rules; stands = now.stands } → Finds old r new
+pub opens : (old now new : Held) (s : Scope) (rest : Position) (r : Record) → now ≡ old → IsReady old →
+    Takes (is_aligned now.rules) (freedoms now.rules) (state_of now) r (rest, s ∷ now.scopes) → ((most l : ℕ) → level most r (suc l) ≡ Some l) →
+    old.stands ≡ kept old r new.place new.scopes → now.levels ≡ new.levels + 1 →
+    new ≡ record { place = rest; scopes = s ∷ now.scopes; levels = new.levels; most = now.most; failed = now.failed; rules = now.rules; stands = now.stands } → Finds old r new
 opens old now new s rest r same ready t lower u e f =
-    let g : Takes (is_aligned old.rules) (freedoms old.rules) (state_of old) r (rest, s ∷ old.scopes) = subst (λ (h : Held). Takes (is_aligned h.rules) (freedoms h.rules) (state_of h) r (rest, s ∷ h.scopes)) same t in
+    let g : Takes (is_aligned old.rules) (freedoms old.rules) (state_of old) r (rest, s ∷ old.scopes) =
+    subst (λ (h : Held). Takes (is_aligned h.rules) (freedoms h.rules) (state_of h) r (rest, s ∷ h.scopes)) same t in
     let k : (rest, s ∷ old.scopes) ≡ state_of new = ap (λ (h : Held). (rest, s ∷ h.scopes)) (sym same) ∙ sym (ap state_of f) in
     let l : old.levels ≡ suc new.levels = let i : old.levels ≡ now.levels = ap (λ (h : Held). h.levels) (sym same) in omega (arith, e, i) in
     record {
@@ -119,17 +130,20 @@ asked_further : (al : Bool) (free : Per.Freedom → Bool) (a b : State) (r : Rec
 asked_further al free a b (further v) k t = (v, t)
 asked_further al free a b r k t = cc k
 
-pub no_member : {failed : Held} (old now : Held) (e x : DecodeError) → now ≡ old → x ≡ e → NoFurther (is_aligned now.rules) (freedoms now.rules) now.place now.scopes e → NoRecord Finds AtOnce asks_further old failed x
+pub no_member : {failed : Held} (old now : Held) (e x : DecodeError) → now ≡ old → x ≡ e →
+    NoFurther (is_aligned now.rules) (freedoms now.rules) now.place now.scopes e → NoRecord Finds AtOnce asks_further old failed x
 no_member old now e x same faults m =
     let n : NoFurther (is_aligned old.rules) (freedoms old.rules) old.place old.scopes e = subst (λ (g : Held). NoFurther (is_aligned g.rules) (freedoms g.rules) g.place g.scopes e) same m in
-    none_at_once Finds (λ i r new k p. let t = asked_further (is_aligned old.rules) (freedoms old.rules) (state_of old) (state_of new) r k p.taken in n.none (λ y. i (faults ∙ y)) t.0 (state_of new) t.1)
+    none_at_once Finds (λ i r new k p. let t = asked_further (is_aligned old.rules) (freedoms old.rules) (state_of old) (state_of new) r k p.taken in
+    n.none (λ y. i (faults ∙ y)) t.0 (state_of new) t.1)
 
 -- ---- presence bits
 asked_presence_bit : (al : Bool) (free : Per.Freedom → Bool) (a b : State) (r : Record) → question r ≡ asks_presence_bit → Takes al free a r b → (v : Bool) × NextPresenceBit v a.0 a.1 b
 asked_presence_bit al free a b (presence_bit v) k t = (v, t)
 asked_presence_bit al free a b r k t = cc k
 
-pub no_presence_bit : {failed : Held} (old now : Held) (x : DecodeError) → now ≡ old → ((v : Bool) (p : Position) (b : State) → NextPresenceBit v p now.scopes b → ⊥) → NoRecord Finds AtOnce asks_presence_bit old failed x
+pub no_presence_bit : {failed : Held} (old now : Held) (x : DecodeError) → now ≡ old →
+    ((v : Bool) (p : Position) (b : State) → NextPresenceBit v p now.scopes b → ⊥) → NoRecord Finds AtOnce asks_presence_bit old failed x
 no_presence_bit old now x same none = none_at_once Finds (λ i r new k p.
     let t = asked_presence_bit (is_aligned old.rules) (freedoms old.rules) (state_of old) (state_of new) r k p.taken in
     none t.0 old.place (state_of new) (subst (λ (h : Held). NextPresenceBit t.0 old.place h.scopes (state_of new)) (sym same) t.1))

@@ -1,6 +1,6 @@
 -- What a preamble is in the next bits.
-use Rattle.std.proofs.Common.{◌≡◌, ℕ, suc, ◌+◌, ◌<◌, Bool, true, cond, List, [], ◌∷◌, ◌++◌, length, Option, Some, None, refl, sym, ◌∙◌, ap, subst, length-append, arith}
-use Rattle.asn1_model.specs.Form.{Reads, exactly}
+use Rattle.std.proofs.Common.{◌≡◌, ℕ, suc, ◌+◌, ◌<◌, Bool, true, cond, List, [], ◌∷◌, ◌++◌, length, Option, Some, None, refl, sym, ◌∙◌, ap, subst, arith}
+use Rattle.asn1_model.specs.Form.{exactly}
 use Rattle.std.specs.Prelude.{is_some}
 use Rattle.asn1_model.specs.Per
 use Rattle.asn1_schema_reading_laws.specs.PresenceBits.{preamble_bits}
@@ -26,8 +26,10 @@ joined_bits : (x : Option Bool) (ms : List Bool) → preamble_bits x [] ++ ms �
 joined_bits None ms = refl
 joined_bits (Some x) ms = refl
 
-pub preamble : (free : Per.Freedom → Bool) (e : Bool) (n : ℕ) (x : Option Bool) (ms : List Bool) (a m b : Position) → is_some x ≡ e → Leads (preamble_bits x []) a m → Leads ms m b → length ms ≡ n → HasPreamble free e n (components x ms) a b
-preamble free e n x ms a m b p h k l = (p, l, subst (λ w. Front free (exactly w) a b) (joined_bits x ms) (exactly_in free (preamble_bits x [] ++ ms) a b (leads_join (preamble_bits x []) ms a m b h k)))
+pub preamble : (free : Per.Freedom → Bool) (e : Bool) (n : ℕ) (x : Option Bool) (ms : List Bool) (a m b : Position) → is_some x ≡ e →
+    Leads (preamble_bits x []) a m → Leads ms m b → length ms ≡ n → HasPreamble free e n (components x ms) a b
+preamble free e n x ms a m b p h k l =
+    (p, l, subst (λ w. Front free (exactly w) a b) (joined_bits x ms) (exactly_in free (preamble_bits x [] ++ ms) a b (leads_join (preamble_bits x []) ms a m b h k)))
 
 behind_extension_bit : (x y : Option Bool) (ms : List Bool) (a m b : Position) → is_some x ≡ is_some y → Leads (preamble_bits x []) a m → Leads (preamble_bits y ms) a b → Leads ms m b
 behind_extension_bit None (Some v) ms a m b p l h = cc
@@ -40,7 +42,8 @@ behind_extension_bit (Some u) (Some v) ms a m b p l h =
     let j = h.1 in
     (t, omega (arith, i, j))
 
-pub no_presence : (free : Per.Freedom → Bool) (e : Bool) (n : ℕ) (x : Option Bool) (a m : Position) (s : Scope) (b : Position) → is_some x ≡ e → Leads (preamble_bits x []) a m → NoneStands free (bits_form n) m → HasPreamble free e n s a b → ⊥
+pub no_presence : (free : Per.Freedom → Bool) (e : Bool) (n : ℕ) (x : Option Bool) (a m : Position) (s : Scope) (b : Position) → is_some x ≡ e →
+    Leads (preamble_bits x []) a m → NoneStands free (bits_form n) m → HasPreamble free e n s a b → ⊥
 no_presence free e n x a m (components y ms) b p l none h = none ms b (bits_read free n ms m b h.1 (behind_extension_bit x y ms a m b (p ∙ sym h.0) l (exactly_out free (preamble_bits y ms) a b h.2)))
 no_presence free e n x a m s b p l none h = h
 

@@ -8,4 +8,3 @@ pub mod Refused
 pub mod Owing
 pub mod TooShort
 pub mod Lacking
-pub mod Largest

@@ -1,5 +1,6 @@
 -- The number of elements that are still to come, counted from the outermost scope.
-use Rattle.std.proofs.Common.{◌≡◌, ◌<◌, ◌≤◌, ℕ, suc, ◌+◌, ◌-◌, ◌^◌, min, Bool, true, false, cond, Option, Some, None, List, [], ◌∷◌, ◌++◌, map, reverse, drop, get_or, length, refl, ap, sym, ◌∙◌, arith}
+use Rattle.std.proofs.Common.{◌≡◌, ◌<◌, ◌≤◌, ℕ, suc, ◌+◌, ◌-◌, ◌^◌, min, Bool, true, false, cond, Option, Some, None}
+use Rattle.std.proofs.Common.{List, [], ◌∷◌, ◌++◌, map, reverse, drop, get_or, length, refl, ap, sym, ◌∙◌, arith}
 use Rattle.std.specs.Prelude.{IfSome, IfNone}
 use Rattle.std.specs.Option.{unwrap_or}
 use Rattle.std.proofs.Math.Seq.{drop-cons, drop-length}
@@ -11,7 +12,7 @@ use Rattle.per_codec_decoder.specs.declared.frames.Frame.{Frame}
 use Rattle.per_codec_decoder.specs.declared.frames.Frame.TheVariants.{Components, Added, OpenType, Members, Alternative}
 use Rattle.per_codec_decoder.specs.declared.frames.Enclosing.{Enclosing}
 use Rattle.per_codec_decoder.specs.declared.frames.Enclosing.TheVariants.{Alternative as EnclosingAlternative, OpenType as EnclosingOpenType}
-use Rattle.per_codec_decoder.specs.Scopes.{scope_of, scopes_of, scopes_in, owing}
+use Rattle.per_codec_decoder.specs.Scopes.{scope_of, scopes_of, owing}
 
 -- an open type around all others
 all_within : (k : List Scope) (p : Position) → is_within (k ++ (open_type p ∷ [])) ≡ true
@@ -66,28 +67,28 @@ owing_due (Alternative ∷ fs) =
     omega arith
 
 -- ---- all frames
-inner_due : (e : Option Enclosing) (o : Option Frame) (gs : List Frame) → due (scopes_of e o gs) ≡ due (scopes_in o gs)
-inner_due None o gs = refl
-inner_due (Some EnclosingAlternative) o gs = refl
-inner_due (Some (EnclosingOpenType behind)) o gs = refl
+pub inner_due : (e : Option Enclosing) (fs : List Frame) → due (scopes_of e fs) ≡ due (map scope_of fs)
+inner_due None fs = refl
+inner_due (Some EnclosingAlternative) fs = refl
+inner_due (Some (EnclosingOpenType behind)) fs = refl
 
-pub framed_due : (e : Option Enclosing) (o : Option Frame) (f : Frame) (fs gs : List Frame) (k : List Scope) → scopes_of e o gs ≡ k → o ≡ Some f → fs ≡ gs → owing (fs ++ (f ∷ [])) ≡ due k
-framed_due e o f fs gs k v i q =
-    owing_due (fs ++ (f ∷ []))
-    ∙ ap (λ l. due (map scope_of l)) (reverse-append fs (f ∷ []))
-    ∙ ap (λ l. due (scopes_in (Some f) l)) q
-    ∙ ap (λ p. due (scopes_in p gs)) (sym i)
-    ∙ sym (inner_due e o gs)
-    ∙ ap (λ l. due l) v
+-- frames in the order in which they began, and the innermost one apart
+pub all_due : (all : List Frame) (f : Frame) (fs k : List Frame) → all ≡ f ∷ k → reverse fs ≡ drop 1 all → owing (fs ++ (f ∷ [])) ≡ due (map scope_of all)
+all_due all f fs k e o =
+    let same : reverse fs ≡ k = o ∙ ap (λ l. drop 1 l) e in
+    owing_due (fs ++ (f ∷ [])) ∙ ap (λ l. due (map scope_of l)) (reverse-append fs (f ∷ []) ∙ ap (λ l. f ∷ l) same ∙ sym e)
 
 -- ---- one frame after another
-pub next_frame : (fs rest : List Frame) (i d m r : ℕ) (f : Frame) → i < length fs → f ≡ get_or fs i f → ((gs : List Frame) → min (d + owing (f ∷ gs)) (2 ^ 64 - 1) ≡ min (m + owing gs) (2 ^ 64 - 1)) → min (d + owing (drop i fs ++ rest)) (2 ^ 64 - 1) ≡ r → min (m + owing (drop (i + 1) fs ++ rest)) (2 ^ 64 - 1) ≡ r
+pub next_frame : (fs rest : List Frame) (i d m r : ℕ) (f : Frame) → i < length fs → f ≡ get_or fs i f →
+    ((gs : List Frame) → min (d + owing (f ∷ gs)) (2 ^ 64 - 1) ≡ min (m + owing gs) (2 ^ 64 - 1)) →
+    min (d + owing (drop i fs ++ rest)) (2 ^ 64 - 1) ≡ r → min (m + owing (drop (i + 1) fs ++ rest)) (2 ^ 64 - 1) ≡ r
 next_frame fs rest i d m r f h g add inv =
     let k : i + 1 ≡ suc i = omega arith in
     let c : drop i fs ≡ f ∷ drop (i + 1) fs = drop-cons fs i f h ∙ ap (λ x. x ∷ drop (suc i) fs) (sym g) ∙ ap (λ n. f ∷ drop n fs) (sym k) in
     sym (add (drop (i + 1) fs ++ rest)) ∙ ap (λ l. min (d + owing (l ++ rest)) (2 ^ 64 - 1)) (sym c) ∙ inv
 
-pub open_frame : (fs rest : List Frame) (i d r : ℕ) (f : Frame) → i < length fs → f ≡ get_or fs i f → ((gs : List Frame) → owing (f ∷ gs) ≡ 0) → d < 2 ^ 64 → min (d + owing (drop i fs ++ rest)) (2 ^ 64 - 1) ≡ r → d ≡ r
+pub open_frame : (fs rest : List Frame) (i d r : ℕ) (f : Frame) → i < length fs → f ≡ get_or fs i f → ((gs : List Frame) → owing (f ∷ gs) ≡ 0) →
+    d < 2 ^ 64 → min (d + owing (drop i fs ++ rest)) (2 ^ 64 - 1) ≡ r → d ≡ r
 open_frame fs rest i d r f h g none b inv =
     let c : drop i fs ≡ f ∷ drop (suc i) fs = drop-cons fs i f h ∙ ap (λ x. x ∷ drop (suc i) fs) (sym g) in
     let z : owing (drop i fs ++ rest) ≡ 0 = ap (λ l. owing (l ++ rest)) c ∙ none (drop (suc i) fs ++ rest) in
@@ -99,6 +100,8 @@ last_frame fs i f d r n h inv =
     let c : drop i fs ≡ [] = ap (λ m. drop m fs) k ∙ drop-length fs in
     ap (λ l. min (d + owing (l ++ (f ∷ []))) (2 ^ 64 - 1)) (sym c) ∙ inv
 
-pub last_due : (o : Option ℕ) (d r : ℕ) (f : Frame) → IfSome o (λ n. (gs : List Frame) → min (d + owing (f ∷ gs)) (2 ^ 64 - 1) ≡ min (n + owing gs) (2 ^ 64 - 1)) → IfSome o (λ n. n < 2 ^ 64) → IfNone o ((gs : List Frame) → owing (f ∷ gs) ≡ 0) → d < 2 ^ 64 → min (d + owing (f ∷ [])) (2 ^ 64 - 1) ≡ r → unwrap_or o d ≡ r
+pub last_due : (o : Option ℕ) (d r : ℕ) (f : Frame) → IfSome o
+    (λ n. (gs : List Frame) → min (d + owing (f ∷ gs)) (2 ^ 64 - 1) ≡ min (n + owing gs) (2 ^ 64 - 1)) → IfSome o (λ n. n < 2 ^ 64) →
+    IfNone o ((gs : List Frame) → owing (f ∷ gs) ≡ 0) → d < 2 ^ 64 → min (d + owing (f ∷ [])) (2 ^ 64 - 1) ≡ r → unwrap_or o d ≡ r
 last_due None d r f a m n h e = let z = n [] in omega (arith, z, e, h)
 last_due (Some k) d r f a m n h e = let z = a [] in omega (arith, z, e, m)

@@ -13,7 +13,7 @@ use Rattle.per_codec_held_laws.specs.Few.{held_with, lacks, told, TooFewHeld, Ow
 use Rattle.per_codec_held_laws.proofs.Carried.{nothing_more}
 use Rattle.per_codec_decoder.specs.Endings.{NotPassed}
 use Rattle.per_codec_held_laws.specs.Held.{HasFailed, IsReady}
-use Rattle.per_codec_decoder.specs.Scopes.{Flags, Leaves, LeavesAddition}
+use Rattle.per_codec_decoder.specs.Scopes.{NextBitmapBit, Leaves, LeavesAddition}
 use Rattle.per_codec_decoder.specs.declared.frames.Ending.{Ending}
 use Rattle.per_codec_decoder.specs.declared.frames.Ending.TheVariants.{Nothing, Unknown, OpenType as Padded}
 
@@ -30,11 +30,13 @@ none_more old failed c h f =
 pub still_none : {q : Question} {old failed : Held} {x : DecodeError} → OwesNoMore old failed → NoRecord Finds AtOnce q old failed x → NoRecord Finds TooFewHeld q old failed x
 still_none {old = old} {failed = failed} h n = record { none = λ m c f r new k p. n.none m c (none_more old failed c h f) r new k p }
 
-pub still_none_in : {q : Question} {levels : ℕ} {old failed : Held} {x : DecodeError} → OwesNoMore old failed → NoLevel Finds AtOnce q levels old failed x → NoLevel Finds TooFewHeld q levels old failed x
+pub still_none_in : {q : Question} {levels : ℕ} {old failed : Held} {x : DecodeError} → OwesNoMore old failed →
+    NoLevel Finds AtOnce q levels old failed x → NoLevel Finds TooFewHeld q levels old failed x
 still_none_in {old = old} {failed = failed} h n = record { none = λ m c f l r new k p. n.none m c (none_more old failed c h f) l r new k p }
 
 -- the same if it is known only for a decoder that had not failed, as no other finds anything
-pub still_none_ready : {q : Question} {levels : ℕ} {old failed : Held} {x : DecodeError} → (IsReady old → OwesNoMore old failed) → NoLevel Finds AtOnce q levels old failed x → NoLevel Finds TooFewHeld q levels old failed x
+pub still_none_ready : {q : Question} {levels : ℕ} {old failed : Held} {x : DecodeError} → (IsReady old → OwesNoMore old failed) →
+    NoLevel Finds AtOnce q levels old failed x → NoLevel Finds TooFewHeld q levels old failed x
 still_none_ready {old = old} {failed = failed} h n = record {
   none = λ m c f l r new k p.
       let t : Finds (held_with f.0 old) r new = subst (λ (s : Held). Finds s r new) f.1 p in
@@ -62,7 +64,7 @@ pub owes_behind : {failed : Held} (old mid : Held) → due mid.scopes ≤ due ol
 owes_behind {failed = failed} old mid h n = let i = n.owed in record { owed = omega arith }
 
 -- a presence bit, and the end of a scope, do not change how many elements are still to come
-pub flags_owe : (v : Bool) (old now : Held) (k : List Scope) → now ≡ old → Flags v now.scopes k → due k ≤ due old.scopes
+pub flags_owe : (v : Bool) (old now : Held) (k : List Scope) → now ≡ old → NextBitmapBit v now.scopes k → due k ≤ due old.scopes
 flags_owe v old now k same f =
     let h : due now.scopes ≡ due f.2 = ap (λ l. due l) f.3 in
     let i : due k ≡ due f.2 = ap (λ l. due l) f.4 in
@@ -80,7 +82,8 @@ left_owes old now failed k same s t h =
     let j : due now.scopes ≡ due old.scopes = ap (λ (x : Held). due x.scopes) same in
     record { owed = omega arith }
 
-pub ended_owes : (al : Bool) (free : Per.Freedom → Bool) (old now failed : Held) (w : Ending) (k : List Scope) (a : Position) (e : DecodeError) → now ≡ old → failed.scopes ≡ k → told failed.failed ≡ 0 → Leaves w now.scopes k → NotPassed al free w a e → OwesNoMore old failed
+pub ended_owes : (al : Bool) (free : Per.Freedom → Bool) (old now failed : Held) (w : Ending) (k : List Scope) (a : Position) (e : DecodeError) →
+    now ≡ old → failed.scopes ≡ k → told failed.failed ≡ 0 → Leaves w now.scopes k → NotPassed al free w a e → OwesNoMore old failed
 ended_owes al free old now failed w k a e same s t l n = left_owes old now failed k same s t (leaving_owes al free w now.scopes k a e l n)
 
 pub addition_owes : (old now failed : Held) (p : Position) (k : List Scope) → now ≡ old → failed.scopes ≡ k → told failed.failed ≡ 0 → LeavesAddition p now.scopes k → OwesNoMore old failed

@@ -12,5 +12,5 @@ abbrev pub unknown_presence : Additions → List Bool
 unknown_presence a = drop a.left a.bitmap.place.1
 
 -- This is the next presence bit.
-abbrev pub TellsOf : Bool → Additions → Additions → Type 0
-TellsOf v old new = (own_presence old ≡ v ∷ own_presence new) × (unknown_presence new ≡ unknown_presence old)
+abbrev pub HasNextBit : Bool → Additions → Additions → Type 0
+HasNextBit v old new = (own_presence old ≡ v ∷ own_presence new) × (unknown_presence new ≡ unknown_presence old)

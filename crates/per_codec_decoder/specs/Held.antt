@@ -6,7 +6,7 @@ use Rattle.asn1_schema_errors.specs.declared.DecodeError.TheVariants.{OutOfMemor
 use Rattle.asn1_schema_laws.specs.Records.{Record, octets}
 use Rattle.per_codec_reading.specs.Fronts.{freedoms, is_aligned, Leads}
 use Rattle.per_codec_reading.specs.Runs.{Storage, EndsAtOctet, InOneRun}
-use Rattle.per_codec_reading.specs.Sizes.{told_in_front}
+use Rattle.per_codec_reading.specs.Headings.{told_in_front}
 use Rattle.per_codec_laws.specs.Takes.{Position, Scope, State, Tally, members, Opens}
 use Rattle.per_codec_held_laws.specs.Held.{Held, IsReady, state_of, innermost, stands_within}
 use Rattle.per_codec_decoder.specs.Members.{HasMembers, NoMembers}
@@ -14,9 +14,9 @@ use Rattle.per_codec_decoder.specs.Preamble.{HasPreamble, NoPreamble}
 use Rattle.per_codec_decoder.specs.declared.frames.Ending.{Ending}
 use Rattle.per_codec_decoder.specs.declared.frames.Ending.TheVariants.{Nothing, Unknown, OpenType as Padded}
 
--- Another position; nothing else changes.
-abbrev pub Stays : Held → Held → Type 0
-Stays old new = new ≡ record {
+-- At most the position changes.
+abbrev pub OnlyMoves : Held → Held → Type 0
+OnlyMoves old new = new ≡ record {
   place = new.place;
   scopes = old.scopes;
   levels = old.levels;
@@ -107,9 +107,9 @@ abbrev pub NoOpening : Held → DecodeError → Type 0
 NoOpening old x = ¬ (x ≡ OutOfMemory) → (k : List Scope) (b : State)
     → Opens (is_aligned old.rules) (freedoms old.rules) old.place k b → ⊥
 
--- The octets of a string are contiguous in the input: in a single fragment (X.691 11.9.4) that ends, and so begins, at
--- an octet boundary. The bits begin with the extension bit, if there is one, which says whether their number is in the
--- root.
+-- The octets of a string are borrowed: they are in one run (X.691 11.9.3.5 to 11.9.3.7, 11.9.4.1) that ends, and so
+-- begins, at an octet of the input. The bits begin with the extension bit, if there is one, which says whether their
+-- number is in the root.
 abbrev pub Lends : Held → Record → Held → Type 0
 Lends old (octets z h os) new = InOneRun (told_in_front z old.place.1) (length os)
     × EndsAtOctet (innermost old.stands) new.place.0

@@ -1,5 +1,5 @@
 -- What precedes the elements of a list (X.691 20), and why the bits do not begin with it.
-use Rattle.std.specs.Prelude.{◌≡◌, ℕ, leb, ◌==◌, ◌&&◌, Bool, true, List, [], ◌∷◌, Option, Some, None}
+use Rattle.std.specs.Prelude.{◌≡◌, ℕ, Bool, List, ◌∷◌, Option, Some, None}
 use Rattle.std.proofs.Common.{Box, Global}
 use Rattle.asn1_model.specs.Schema.{Counts, Size}
 use Rattle.asn1_model.specs.Per
@@ -19,7 +19,7 @@ pub record Due : Type 0 where
   pub due : ℕ
   pub tally : Option Tally
 
--- What is known of a list is held by a pointer.
+-- What the pointer of a list says of it.
 abbrev pub tally_in : Option (Box Tally Global) → Option Tally
 tally_in None = None
 tally_in (Some boxed) = Some boxed.value
@@ -38,7 +38,8 @@ pub record NoMembers (al : Bool) (free : Per.Freedom → Bool) (z : Size) (h : C
 -- As `NoMembers`, for a length determinant.
 pub record NoDeterminant (al : Bool) (free : Per.Freedom → Bool) (t : Tally) (a : Position)
     (e : DecodeError) : Type 0 where
-  pub none : ¬ (e ≡ OutOfMemory) → (b : Position) (due : ℕ) (hs : Option Tally) → NextDeterminant al free t a b due hs → ⊥
+  pub none : ¬ (e ≡ OutOfMemory) → (b : Position) (due : ℕ) (hs : Option Tally)
+      → NextDeterminant al free t a b due hs → ⊥
 
 -- As `NoMembers`, for another element, or the end.
 pub record NoFurther (al : Bool) (free : Per.Freedom → Bool) (a : Position) (k : List Scope)
@@ -54,9 +55,3 @@ AreBehind r t l due hs = (a b : Position) → Front (freedoms r) (length_form (i
 abbrev pub NoneAreBehind : PackedRules → Tally → Length → DecodeError → Type 0
 NoneAreBehind r t l e = (a b : Position) → Front (freedoms r) (length_form (is_aligned r) l) a b
     → NoDeterminant (is_aligned r) (freedoms r) t a e
-
--- After a fragment of m times 16384 elements, these come in the order of the largest first: no fragment follows one of
--- fewer than four times 16384 (X.691 11.9.3.8).
-abbrev pub largest_behind : ℕ → List ℕ → Bool
-largest_behind m [] = true
-largest_behind m (k ∷ ks) = (m == 4 && (leb 1 k && leb k 4)) && largest_behind k ks

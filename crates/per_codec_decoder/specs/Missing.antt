@@ -4,8 +4,8 @@ use Rattle.asn1_model.specs.Per
 use Rattle.per_codec_laws.specs.Takes.{Position}
 use Rattle.per_codec_reading.specs.Fronts.{NoneStands}
 use Rattle.per_codec_reading.specs.Units.{count_of}
-use Rattle.per_codec_reading.specs.declared.sizes.LengthDeterminant.{LengthDeterminant}
-use Rattle.per_codec_reading.specs.declared.sizes.LengthDeterminant.TheVariants.{Constrained, General}
+use Rattle.per_codec_reading.specs.declared.headings.LengthDeterminant.{LengthDeterminant}
+use Rattle.per_codec_reading.specs.declared.headings.LengthDeterminant.TheVariants.{Constrained, General}
 
 -- How many units follow a length determinant, before any other one.
 abbrev pub count_in : LengthDeterminant → ℕ

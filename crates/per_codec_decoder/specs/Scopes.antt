@@ -1,5 +1,5 @@
 -- What has begun and has not ended, as a decoder of PER (X.691) holds it.
-use Rattle.std.specs.Prelude.{◌≡◌, ℕ, ◌+◌, Bool, List, [], ◌∷◌, map, reverse, Option, Some, None}
+use Rattle.std.specs.Prelude.{◌≡◌, ℕ, ◌+◌, Bool, List, [], ◌∷◌, map, Option, Some, None}
 use Rattle.asn1_model.specs.Per
 use Rattle.per_codec_laws.specs.Takes.{Position, State, Scope, components, added, open_type, members, alternative}
 use Rattle.per_codec_laws.specs.Takes.{AdditionsBegin, NextAddition, AdditionEnds, Ends}
@@ -25,16 +25,10 @@ abbrev pub scope_around : Enclosing → Scope
 scope_around (Opened p) = open_type p.place
 scope_around Chosen = alternative
 
--- The open scopes of frames, the innermost first. The innermost frame is apart; those around it are in the order in
--- which they began.
-abbrev pub scopes_in : Option Frame → List Frame → List Scope
-scopes_in None fs = []
-scopes_in (Some f) fs = scope_of f ∷ map scope_of (reverse fs)
-
 -- The open scopes, the innermost first: one that contains a single value, if there is one, and those of the frames.
-abbrev pub scopes_of : Option Enclosing → Option Frame → List Frame → List Scope
-scopes_of None f fs = scopes_in f fs
-scopes_of (Some e) f fs = scope_around e ∷ scopes_in f fs
+abbrev pub scopes_of : Option Enclosing → List Frame → List Scope
+scopes_of None fs = map scope_of fs
+scopes_of (Some e) fs = scope_around e ∷ map scope_of fs
 
 -- The number of elements that are still to come in frames, the outermost first, up to the first open type.
 abbrev pub owing : List Frame → ℕ
@@ -56,20 +50,16 @@ abbrev pub behind_frames : List Frame → List Storage
 behind_frames [] = []
 behind_frames (f ∷ fs) = behind_frame f (behind_frames fs)
 
-abbrev pub behind_in : Option Frame → List Frame → List Storage
-behind_in None fs = []
-behind_in (Some f) fs = behind_frame f (behind_frames (reverse fs))
-
-abbrev pub behind_of : Option Enclosing → Option Frame → List Frame → List Storage
-behind_of None f fs = behind_in f fs
-behind_of (Some e) f fs = behind_around e (behind_in f fs)
+abbrev pub behind_of : Option Enclosing → List Frame → List Storage
+behind_of None fs = behind_frames fs
+behind_of (Some e) fs = behind_around e (behind_frames fs)
 
 -- What is open: the scopes, and where the bits after each open type among them are stored.
 pub record Open : Type 0 where
   pub scopes : List Scope
   pub behind : List Storage
 
--- A scope is opened where bits are stored so.
+-- The storages, innermost first, with that of the bits after an open type put second.
 abbrev pub beneath : Storage → List Storage → List Storage
 beneath s [] = []
 beneath s (t ∷ k) = t ∷ s ∷ k
@@ -84,17 +74,18 @@ HasExtensionBit m s = (k : List Scope) × (s ≡ components (Some m) [] ∷ k)
 
 -- No additions come here.
 abbrev pub NoAdditions : List Scope → Type 0
-NoAdditions s = (al : Bool) (free : Per.Freedom → Bool) (n : ℕ) (a : Position) (b : State) → AdditionsBegin al free n a s b
-    → ⊥
+NoAdditions s = (al : Bool) (free : Per.Freedom → Bool) (n : ℕ) (a : Position) (b : State)
+    → AdditionsBegin al free n a s b → ⊥
 
 -- The next bit of the innermost presence bitmap.
-abbrev pub Flags : Bool → List Scope → List Scope → Type 0
-Flags v old new = (ms : List Bool) × (us : List Bool) × (k : List Scope) × (old ≡ added (v ∷ ms) us ∷ k)
+abbrev pub NextBitmapBit : Bool → List Scope → List Scope → Type 0
+NextBitmapBit v old new = (ms : List Bool) × (us : List Bool) × (k : List Scope) × (old ≡ added (v ∷ ms) us ∷ k)
     × (new ≡ added ms us ∷ k)
 
 -- No further addition is due here.
-abbrev pub NoFlag : List Scope → Type 0
-NoFlag s = (al : Bool) (free : Per.Freedom → Bool) (v : Bool) (a : Position) (b : State) → NextAddition al free v a s b → ⊥
+abbrev pub NoAdditionDue : List Scope → Type 0
+NoAdditionDue s = (al : Bool) (free : Per.Freedom → Bool) (v : Bool) (a : Position) (b : State)
+    → NextAddition al free v a s b → ⊥
 
 -- The innermost scope is left, with this before its end.
 abbrev pub Leaves : Ending → List Scope → List Scope → Type 0
@@ -102,7 +93,7 @@ Leaves Nothing old new = (al : Bool) (free : Per.Freedom → Bool) (a : Position
 Leaves (Unknown r) old new = old ≡ added [] r.place.1 ∷ new
 Leaves (Padded p) old new = old ≡ open_type p.place ∷ new
 
--- And bits after the open types that are left, if it was one, are stored so.
+-- The storages of the bits after the open types: the first one goes if the scope that is left is an open type.
 abbrev pub LeavesBehind : Ending → List Storage → List Storage → Type 0
 LeavesBehind Nothing old new = old ≡ new
 LeavesBehind (Unknown r) old new = old ≡ new

@@ -1,6 +1,6 @@
 //! The extension additions of a SEQUENCE or SET (X.691 19.7).
 ghost use Rattle.std.specs.Prelude.{◌≡◌, IfSome, IfNone};
-ghost use Rattle.per_codec_decoder.specs.Additions.{TellsOf};
+ghost use Rattle.per_codec_decoder.specs.Additions.{HasNextBit};
 
 use per_codec_reading_values::Stretch;
 
@@ -18,7 +18,7 @@ impl Additions<'_> {
     /// absent.
     #[inline(always)]
     pub(crate) fn next(&mut self) -> Option<bool>
-        ensures some { IfSome result (λ is_there. TellsOf is_there self.old self.new) }
+        ensures some { IfSome result (λ is_there. HasNextBit is_there self.old self.new) }
         ensures none { IfNone result (self.old.left ≡ 0) }
     {
         if self.left == 0 {

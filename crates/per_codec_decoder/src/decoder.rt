@@ -3,7 +3,7 @@ ghost use Rattle.std.specs.Cow.{cow_slice_items, IsBorrowedSlice};
 ghost use Rattle.std.specs.Prelude.{◌≡◌, ◌+◌, ◌-◌, ◌/◌, ◌<◌, ◌^◌, [], ◌∷◌, true, Some, None, length, take, min};
 ghost use Rattle.std.specs.Prelude.{OnOk, OnErr, IfErr, IfOk};
 ghost use Rattle.per_codec_held_laws.specs.Held.{Held, Finds, kind_of};
-ghost use Rattle.per_codec_decoder.specs.Held.{Lends, Stays, Moves, Enters};
+ghost use Rattle.per_codec_decoder.specs.Held.{Lends, OnlyMoves, Moves, Enters};
 ghost use Rattle.per_codec_held_laws.specs.Held.{HasFailed, IsReady};
 ghost use Rattle.per_codec_decoder.specs.Held.{HasOpened, HasPassed, NoOpening, EntersMembers, EntersComponents};
 ghost use Rattle.per_codec_decoder.specs.Held.{NotMembers, NotComponents};
@@ -20,7 +20,7 @@ ghost use Rattle.asn1_model.specs.Numbers.{octet_bits, is_count_within};
 ghost use Rattle.asn1_values_bits.specs.BitStr.{bits_of};
 ghost use Rattle.per_codec_laws.specs.Takes.{alternative, Front, completion};
 ghost use Rattle.per_codec_reading.specs.Fronts.{freedoms, is_aligned, IsFresh};
-ghost use Rattle.asn1_schema_errors.specs.Calls.{DecoderCall};
+ghost use Rattle.asn1_schema_errors.specs.Calls.{DecoderCall, OneLevelLess, SameLevel};
 
 use crate::missing::{missing_octets_at, missing_of_string_at};
 use crate::options::DecoderOptions;
@@ -28,7 +28,7 @@ use crate::{Additions, Enclosing, Ending, Frame, Scopes, read_members, read_prea
 use asn1_schema_constraints::{Bounded, Constraints, Sizes};
 use asn1_schema_decode::{Decoder as _, go_on};
 use asn1_schema_errors::{CodecKind, DecodeError};
-use asn1_schema_tags::{Chosen, Enumerated, Tag, TagTables};
+use asn1_schema_tags::{Chosen, EnumerationItems, Tag, TagTables};
 use asn1_values_alphabets::StaticPermittedAlphabet;
 use asn1_values_bit_strings::BitString;
 use asn1_values_bits::BitStr;
@@ -122,6 +122,14 @@ impl<'input> Decoder<'input> {
         self.place.bits()
     }
 
+    /// The number of bits of the message or open type that have been read.
+    #[inline(always)]
+    pub fn position(&self) -> usize
+        ensures { result ≡ self.now.place.0 }
+    {
+        self.place.cursor().position()
+    }
+
     /// After an error, how many more octets are needed at least. At least one, and enough octets for the bits that a
     /// string or an open type lacks and for one bit for each element that is still to come in a SEQUENCE OF or SET OF
     /// outside open types.
@@ -143,10 +151,10 @@ impl<'input> Decoder<'input> {
     pub fn finish(&mut self) -> Result<(), DecodeError>
         ensures ok { OnOk result (IsReady self.old
             × Front (freedoms self.old.rules) (completion self.old.place.0) self.old.place self.new.place) }
-        ensures rest { OnOk result (Stays self.old self.new) }
+        ensures rest { OnOk result (OnlyMoves self.old self.new) }
         ensures only { IfErr result (λ _. IsReady self.old → (b : _)
             → Front (freedoms self.old.rules) (completion self.old.place.0) self.old.place b → ⊥) }
-        ensures call { DecoderCall HasFailed self.old self.new result }
+        ensures call { DecoderCall HasFailed (SameLevel (λ s. s.levels)) self.old self.new result }
     {
         record!(self, cursor, read_completion(&mut cursor, self.rules))
     }
@@ -177,10 +185,9 @@ impl<'input> Decoder<'input> {
         ensures lent { IfOk result (λ x. Lends self.old
             (octets (size_of sizes) (counts_of held) (cow_slice_items x)) self.new
             → IsBorrowedSlice x) }
-        ensures level { OnOk result (self.new.levels ≡ self.old.levels) }
         ensures only { IfErr result (NoRecord Finds TooFewHeld
             (asks_octets (size_of sizes) (counts_of held)) self.old self.new) }
-        ensures call { DecoderCall HasFailed self.old self.new result }
+        ensures call { DecoderCall HasFailed (SameLevel (λ s. s.levels)) self.old self.new result }
     {
         go_on(self.failed.is_some())?;
         match self.place.take_octet_string(alloc, self.rules, sizes, held) {
@@ -315,7 +322,7 @@ impl<'input> Decoder<'input> {
         ensures ok { OnOk result (EntersMembers self.old (size_of sizes) (members_of held) self.new) }
         ensures only { IfErr result (NotMembers self.old (size_of sizes) (members_of held)) }
         ensures owed { OnErr result (IsReady self.old → OwesNoMore self.old self.new) }
-        ensures call { DecoderCall HasFailed self.old self.new result }
+        ensures call { DecoderCall HasFailed (OneLevelLess (λ s. s.levels)) self.old self.new result }
     {
         go_on(self.failed.is_some())?;
         if self.levels == 0 {
@@ -332,9 +339,8 @@ impl<'input> Decoder<'input> {
     // Whether another element follows, after the next length determinant if none is due before it.
     fn find_further(&mut self) -> Result<bool, DecodeError>
         ensures ok { IfOk result (λ more. Finds self.old (further more) self.new) }
-        ensures level { OnOk result (self.new.levels ≡ self.old.levels) }
         ensures only { IfErr result (NoRecord Finds TooFewHeld asks_further self.old self.new) }
-        ensures call { DecoderCall HasFailed self.old self.new result }
+        ensures call { DecoderCall HasFailed (SameLevel (λ s. s.levels)) self.old self.new result }
     {
         go_on(self.failed.is_some())?;
         let mut cursor = self.place.cursor();
@@ -354,7 +360,7 @@ impl<'input> Decoder<'input> {
         ensures ok { OnOk result (EntersComponents self.old extensible optional self.new) }
         ensures only { IfErr result (NotComponents self.old extensible optional) }
         ensures owed { OnErr result (IsReady self.old → OwesNoMore self.old self.new) }
-        ensures call { DecoderCall HasFailed self.old self.new result }
+        ensures call { DecoderCall HasFailed (OneLevelLess (λ s. s.levels)) self.old self.new result }
     {
         go_on(self.failed.is_some())?;
         if self.levels == 0 {
@@ -490,11 +496,15 @@ impl<'input> asn1_schema_decode::Decoder for Decoder<'input> {
         )
     }
 
-    fn decode_enumerated<T: Enumerated>(&mut self, _tag: Tag) -> Result<T, DecodeError> {
+    fn decode_item_of<I: EnumerationItems>(
+        &mut self,
+        _tag: Tag,
+        items: &I,
+    ) -> Result<I::Item, DecodeError> {
         record!(
             self,
             cursor,
-            read_item(self.scopes.allocator(), &mut cursor, self.rules)
+            read_item(self.scopes.allocator(), &mut cursor, self.rules, items)
         )
     }
 

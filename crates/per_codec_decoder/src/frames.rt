@@ -1,24 +1,25 @@
 //! Open scopes.
-ghost use Rattle.std.specs.Prelude.{◌≡◌, ◌<◌, ◌+◌, ◌-◌, ◌^◌, ◌∷◌, [], List, true, false, min};
+ghost use Rattle.std.specs.Prelude.{◌≡◌, ◌<◌, ◌+◌, ◌-◌, ◌^◌, ◌∷◌, [], List, map, true, false, min};
 ghost use Rattle.std.specs.Prelude.{OnOk, IfOk, IfErr, IfSome, IfNone, MatchBool};
 ghost use Rattle.per_codec_laws.specs.Takes.{NextPresenceBit, NextMember, open_type};
 ghost use Rattle.per_codec_reading.specs.Fronts.{freedoms, is_aligned, IsFresh};
 ghost use Rattle.per_codec_decoder.specs.Members.{NoFurther};
 ghost use Rattle.per_codec_longer_laws.specs.Few.{due};
 ghost use Rattle.per_codec_decoder.specs.declared.frames.Frame.{Frame};
-ghost use Rattle.per_codec_decoder.specs.Scopes.{behind_around, behind_frame, behind_in, behind_of, scope_of};
-ghost use Rattle.per_codec_decoder.specs.Scopes.{owing, scope_around, scopes_in, scopes_of};
-ghost use Rattle.per_codec_decoder.specs.Scopes.{HasExtensionBit, NoAdditions, Flags, NoFlag, Leaves, LeavesBehind};
+ghost use Rattle.per_codec_decoder.specs.Scopes.{behind_around, behind_frame, behind_frames, behind_of, scope_of};
+ghost use Rattle.per_codec_decoder.specs.Scopes.{owing, scope_around, scopes_of};
+ghost use Rattle.per_codec_decoder.specs.Scopes.{HasExtensionBit, NoAdditions, NextBitmapBit, NoAdditionDue, Leaves};
+ghost use Rattle.per_codec_decoder.specs.Scopes.{LeavesBehind};
 ghost use Rattle.per_codec_decoder.specs.Scopes.{LeavesAddition, NoAdditionEnd, NoEnd, IsAdded};
 
 use crate::additions::Additions;
 use crate::members::DueMembers;
 use asn1_schema_errors::DecodeError;
+use asn1_schema_scopes::Stack;
 use per_codec_reading::{Cursor, PackedRules};
 use per_codec_reading_values::Stretch;
 use std::alloc::{AllocError, Global};
 use std::marker::Model;
-use std::mem::replace;
 
 /// What has begun and has not ended.
 #[derive(Drop)]
@@ -99,58 +100,47 @@ impl<'input> Enclosing<'input> {
     }
 }
 
-/// Opens a scope inside those of the frames.
-#[inline(always)]
-fn open_frame<'input>(
-    innermost: &mut Option<Frame<'input>>,
-    outer: &mut Vec<Frame<'input>>,
-    frame: Frame<'input>,
-) -> Result<(), AllocError>
-    ensures scopes { OnOk result (scopes_in innermost.new outer.new.items
-        ≡ scope_of frame.entry ∷ scopes_in innermost.old outer.old.items) }
-    ensures behind { OnOk result (behind_in innermost.new outer.new.items ≡ behind_frame frame.entry
-        (behind_in innermost.old outer.old.items)) }
-{
-    if innermost.is_none() {
-        if !outer.is_empty() {
-            outer.clear();
-        }
-        *innermost = Some(frame);
-        return Ok(());
-    }
-    if let Some(around) = innermost.replace(frame) {
-        outer.push(around)?;
-    }
-    Ok(())
-}
-
 /// Moves the scope that contains a single value to the frames: the scopes stay the same. Called seldom: if something
 /// begins in an open type or in an alternative.
 #[cold]
 fn settle<'input>(
     enclosing: &mut Option<Enclosing<'input>>,
-    innermost: &mut Option<Frame<'input>>,
-    outer: &mut Vec<Frame<'input>>,
+    frames: &mut Stack<Frame<'input>>,
 ) -> Result<(), AllocError>
     ensures moved { OnOk result (enclosing.new ≡ None) }
-    ensures scopes { OnOk result (scopes_in innermost.new outer.new.items
-        ≡ scopes_of enclosing.old innermost.old outer.old.items) }
-    ensures behind { OnOk result (behind_in innermost.new outer.new.items
-        ≡ behind_of enclosing.old innermost.old outer.old.items) }
+    ensures scopes { OnOk result (map scope_of frames.new ≡ scopes_of enclosing.old frames.old) }
+    ensures behind { OnOk result (behind_frames frames.new ≡ behind_of enclosing.old frames.old) }
 {
     if let Some(around) = enclosing.take() {
-        open_frame(innermost, outer, around.frame())?;
+        frames.open(around.frame())?;
     }
     Ok(())
 }
 
-/// All open scopes: one that contains a single value, which is innermost if there is one; the innermost frame; and the
-/// frames around it.
+/// The number of elements that are still to come in frames, counted from the outermost one up to the first open type,
+/// saturating at 64 bits.
+#[cold]
+fn frames_due(frames: &Stack<Frame<'_>>) -> usize
+    ensures { result ≡ min (due (map scope_of frames.now)) (2 ^ 64 - 1) }
+{
+    let Some(innermost) = &frames.innermost else {
+        return 0;
+    };
+    let mut due = 0;
+    for frame in frames.outer() {
+        let Some(more) = frame.add_due(due) else {
+            return due;
+        };
+        due = more;
+    }
+    innermost.add_due(due).unwrap_or(due)
+}
+
+/// All open scopes: one that contains a single value, which is innermost if there is one, and the frames.
 #[derive(Drop)]
 pub struct Scopes<'input> {
     enclosing: Option<Enclosing<'input>>,
-    innermost: Option<Frame<'input>>,
-    outer: Vec<Frame<'input>>,
+    frames: Stack<Frame<'input>>,
 }
 
 impl<'input> Model for Scopes<'input> {
@@ -159,9 +149,8 @@ impl<'input> Model for Scopes<'input> {
     ghost Value = { Open };
 
     ghost view = { λ s. record {
-      scopes = scopes_of s.enclosing s.innermost s.outer.items;
-      behind = behind_of
-          s.enclosing s.innermost s.outer.items;
+      scopes = scopes_of s.enclosing s.frames;
+      behind = behind_of s.enclosing s.frames;
     } };
 }
 
@@ -173,15 +162,14 @@ impl<'input> Scopes<'input> {
     {
         Scopes {
             enclosing: None,
-            innermost: None,
-            outer: Vec::new(alloc),
+            frames: Stack::new(alloc),
         }
     }
 
     /// Whether no scope is open and nothing was allocated for any, as usual at the end of a message.
     #[inline(always)]
     pub fn hold_no_memory(&self) -> bool {
-        self.enclosing.is_none() && self.innermost.is_none() && self.outer.capacity() == 0
+        self.enclosing.is_none() && self.frames.holds_no_memory()
     }
 
     /// Closes all scopes.
@@ -189,8 +177,7 @@ impl<'input> Scopes<'input> {
         ensures { self.new.scopes ≡ [] }
     {
         self.enclosing = None;
-        self.innermost = None;
-        self.outer.clear();
+        self.frames.clear();
     }
 
     /// The number of elements that are still to come in each SEQUENCE OF and SET OF that is open outside open types,
@@ -199,22 +186,12 @@ impl<'input> Scopes<'input> {
     pub fn due(&self) -> usize
         ensures { result ≡ min (due self.now.scopes) (2 ^ 64 - 1) }
     {
-        let Some(innermost) = &self.innermost else {
-            return 0;
-        };
-        let mut due = 0;
-        for frame in self.outer.as_slice() {
-            let Some(more) = frame.add_due(due) else {
-                return due;
-            };
-            due = more;
-        }
-        innermost.add_due(due).unwrap_or(due)
+        frames_due(&self.frames)
     }
 
     /// The allocator.
     pub fn allocator(&self) -> Global {
-        *self.outer.allocator()
+        self.frames.allocator()
     }
 
     /// Opens a scope inside all others.
@@ -228,10 +205,10 @@ impl<'input> Scopes<'input> {
         ensures behind { OnOk result (self.new.behind ≡ behind_frame frame.entry self.old.behind) }
     {
         if self.enclosing.is_none() {
-            return open_frame(&mut self.innermost, &mut self.outer, frame);
+            return self.frames.open(frame);
         }
-        settle(&mut self.enclosing, &mut self.innermost, &mut self.outer)?;
-        open_frame(&mut self.innermost, &mut self.outer, frame)
+        settle(&mut self.enclosing, &mut self.frames)?;
+        self.frames.open(frame)
     }
 
     /// Opens, inside all others, a scope that contains a single value.
@@ -248,7 +225,7 @@ impl<'input> Scopes<'input> {
             self.enclosing = Some(enclosing);
             return Ok(());
         }
-        settle(&mut self.enclosing, &mut self.innermost, &mut self.outer)?;
+        settle(&mut self.enclosing, &mut self.frames)?;
         self.enclosing = Some(enclosing);
         Ok(())
     }
@@ -264,7 +241,7 @@ impl<'input> Scopes<'input> {
         if self.enclosing.is_some() {
             return None;
         }
-        match &mut self.innermost {
+        match &mut self.frames.innermost {
             Some(Frame::Components(presence, _)) => presence.next_bit(),
             _ => None,
         }
@@ -279,7 +256,7 @@ impl<'input> Scopes<'input> {
         if self.enclosing.is_some() {
             return None;
         }
-        match &self.innermost {
+        match &self.frames.innermost {
             Some(Frame::Components(presence, bit)) if presence.is_empty() => *bit,
             _ => None,
         }
@@ -292,29 +269,29 @@ impl<'input> Scopes<'input> {
         ensures scopes { (s : _) (k : _) → self.old.scopes ≡ s ∷ k → self.new.scopes ≡ scope_of frame.entry ∷ k }
         ensures behind { self.new.behind ≡ behind_frame frame.entry self.old.behind }
     {
-        self.innermost = Some(frame);
+        self.frames.innermost = Some(frame);
     }
 
     /// Whether the next addition of the innermost SEQUENCE or SET is present, if one is due. Additions after the end of
     /// the bitmap are absent.
     #[inline(always)]
     pub fn next_addition(&mut self) -> Option<bool>
-        ensures some { IfSome result (λ is_there. Flags is_there self.old.scopes self.new.scopes) }
+        ensures some { IfSome result (λ is_there. NextBitmapBit is_there self.old.scopes self.new.scopes) }
         ensures behind { self.new.behind ≡ self.old.behind }
-        ensures none { IfNone result (NoFlag self.old.scopes) }
+        ensures none { IfNone result (NoAdditionDue self.old.scopes) }
     {
         if self.enclosing.is_some() {
             return None;
         }
-        match &mut self.innermost {
+        match &mut self.frames.innermost {
             Some(Frame::Added(additions)) => additions.next(),
             _ => None,
         }
     }
 
-    /// Removes and returns the innermost scope.
+    /// Closes the innermost scope and returns it.
     #[inline(always)]
-    fn pop(&mut self) -> Option<Frame<'input>>
+    fn close(&mut self) -> Option<Frame<'input>>
         ensures some { IfSome result (λ frame. self.old.scopes ≡ scope_of frame ∷ self.new.scopes) }
         ensures behind { IfSome result (λ frame. self.old.behind ≡ behind_frame frame self.new.behind) }
         ensures none { IfNone result (self.old.scopes ≡ []) }
@@ -322,10 +299,7 @@ impl<'input> Scopes<'input> {
         if let Some(enclosing) = self.enclosing.take() {
             return Some(enclosing.frame());
         }
-        if self.outer.is_empty() {
-            return self.innermost.take();
-        }
-        replace(&mut self.innermost, self.outer.pop())
+        self.frames.close()
     }
 
     /// Whether the innermost scope is that of extension additions.
@@ -333,7 +307,7 @@ impl<'input> Scopes<'input> {
     fn is_in_additions(&self) -> bool
         ensures { MatchBool result (IsAdded self.now.scopes) (IsAdded self.now.scopes → ⊥) }
     {
-        match &self.innermost {
+        match &self.frames.innermost {
             Some(Frame::Added(_)) => self.enclosing.is_none(),
             _ => false,
         }
@@ -352,7 +326,7 @@ impl<'input> Scopes<'input> {
                 Enclosing::Alternative => None,
             };
         }
-        match self.pop() {
+        match self.close() {
             Some(Frame::OpenType(place)) => Some(place),
             _ => None,
         }
@@ -384,7 +358,7 @@ impl<'input> Scopes<'input> {
         if self.enclosing.is_some() {
             return false;
         }
-        match &mut self.innermost {
+        match &mut self.frames.innermost {
             Some(Frame::Members(members)) => members.take_due(),
             _ => false,
         }
@@ -411,7 +385,7 @@ impl<'input> Scopes<'input> {
         if self.enclosing.is_some() {
             return Err(DecodeError::NotValidCanonicalEncoding);
         }
-        match &mut self.innermost {
+        match &mut self.frames.innermost {
             Some(Frame::Members(members)) => members.next(cursor, rules),
             _ => Err(DecodeError::NotValidCanonicalEncoding),
         }
@@ -428,7 +402,7 @@ impl<'input> Scopes<'input> {
         if let Some(enclosing) = self.enclosing.take() {
             return Some(enclosing.ending());
         }
-        match self.pop() {
+        match self.close() {
             Some(Frame::Components(presence, None)) => {
                 if !presence.is_empty() {
                     return None;

@@ -1,36 +1,32 @@
 //! The number of elements of a SEQUENCE OF or SET OF (X.691 20 and 22), in one length determinant or in fragments.
-ghost use Rattle.std.specs.Prelude.{◌≡◌, ◌+◌, ◌*◌, ◌^◌, ◌≤◌, ◌<◌, ◌∷◌, leb, ◌==◌, ◌&&◌, ◌||◌};
-ghost use Rattle.std.specs.Prelude.{true, false, None, IsTrue, ◌↔◌, IfOk, IfErr, IfSome, IfNone};
-ghost use Rattle.asn1_model.specs.Numbers.{is_count_within};
-ghost use Rattle.asn1_model.specs.Per;
+ghost use Rattle.std.specs.Prelude.{◌≡◌, ◌∷◌, true, false, None, IsTrue, ◌↔◌, IfOk, IfErr};
 ghost use Rattle.asn1_schema_constraints.specs.Bounds.{members_of};
 ghost use Rattle.asn1_schema_constraints.specs.Terms.{size_of};
-ghost use Rattle.per_codec_laws.specs.Takes.{MemberDue, NextMember, members, in_all};
+ghost use Rattle.per_codec_laws.specs.Takes.{MemberDue, NextMember, members};
 ghost use Rattle.per_codec_reading.specs.Fronts.{freedoms, is_aligned, IsFresh};
 ghost use Rattle.per_codec_reading.specs.Lengths.{IsLength};
-ghost use Rattle.per_codec_reading.specs.Sizes.{admitted, may_be_outside};
-ghost use Rattle.per_codec_decoder.specs.Members.{largest_behind, AreBehind, NoneAreBehind};
+ghost use Rattle.per_codec_decoder.specs.Members.{AreBehind, NoneAreBehind};
 ghost use Rattle.per_codec_decoder.specs.Members.{HasMembers, NoFurther, NoMembers};
 
 use asn1_schema_constraints::{Bounded, Sizes};
-use asn1_schema_decode::most_members;
 use asn1_schema_errors::DecodeError;
 use per_codec_reading::length::{Length, read_length};
 use per_codec_reading::{
-    Cursor, FRAGMENT, LengthDeterminant, PackedRules, is_accepted_outside, is_admitted,
-    read_heading,
+    Cursor, LengthDeterminant, PackedRules, is_accepted_outside, is_admitted, read_heading,
 };
 use std::alloc::Global;
 use std::marker::Model;
 
 /// What is known of a list in fragments (X.691 11.9.3.8): how many elements it may have, whether the extension bit says
-/// that their number is outside the root, and how many times 16384 elements each fragment so far has.
+/// that their number is outside the root, how many elements the fragments so far have, and how many times 16384 the
+/// last of them has. Before the first one that is 4: any fragment may be the first, as after one of 65536 elements.
 #[derive(Drop)]
 pub(crate) struct Tally {
     sizes: Sizes,
     held: Bounded<usize>,
     is_outside: bool,
-    fragments: Vec<u8>,
+    counted: usize,
+    last: usize,
 }
 
 impl Model for Tally {
@@ -44,7 +40,8 @@ impl Model for Tally {
       size = size_of t.sizes;
       held = members_of t.held;
       outside = t.is_outside;
-      sizes = t.fragments.items;
+      counted = t.counted;
+      last = t.last;
     } };
 }
 
@@ -66,67 +63,45 @@ impl Model for DueMembers {
 }
 
 impl Tally {
-    /// The number of elements in the fragments so far and of `last` more, if it is allowed: the user-defined type can
-    /// hold it, and it is in the root or encoded as outside it.
-    fn admitted(&self, last: usize) -> Option<usize>
-        ensures some { IfSome result (λ total. total ≡ in_all self.now.sizes last) }
-        ensures admitted { IfSome result (λ total.
-            admitted self.now.held self.now.size.counts self.now.outside total ≡ true) }
-        ensures none { IfNone result (admitted self.now.held self.now.size.counts self.now.outside
-            (in_all self.now.sizes last) ≡ true → ⊥) }
-    {
-        // For the proof: the greatest number of elements that the type can hold fits in 64 bits.
-        let _most = most_members(self.held);
-        match total_of(&self.fragments, last) {
-            Some(total) => {
-                if !is_admitted(self.sizes.root, self.held, self.is_outside, total) {
-                    return None;
-                }
-                Some(total)
-            }
-            None => None,
-        }
-    }
-
-    /// Whether this number of elements is accepted: in strict rules a number in the root is not encoded as outside it
-    /// (X.691 20.4), and the largest fragments come first (X.691 11.9.3.8).
-    #[inline(always)]
-    fn is_accepted(&self, rules: PackedRules, total: usize) -> bool
-        ensures { result ≡ (may_be_outside (freedoms rules Per.root_told_outside) self.now.outside
-            (is_count_within self.now.size.counts total)
-            && (freedoms rules Per.other_fragments || largest_behind 4 self.now.sizes)) }
-    {
-        is_accepted_outside(rules, self.sizes.root, self.is_outside, total)
-            && (!rules.is_strict() || are_largest_first(&self.fragments))
-    }
-
     /// The elements after a length determinant that was read: those of a fragment, or the last ones, with which the
     /// number of all elements is checked.
     ///
     /// # Errors
     ///
-    /// `SizeConstraintNotSatisfied` if the number of elements is not allowed, `NotValidCanonicalEncoding` if strict
-    /// rules do not accept it, and `OutOfMemory`.
-    fn behind(mut self, rules: PackedRules, length: Length) -> Result<DueMembers, DecodeError>
+    /// `NotValidCanonicalEncoding` if strict rules do not accept a fragment after the last one, or the number of
+    /// elements in the root encoded as outside it, `SizeConstraintNotSatisfied` if their number is not allowed, and
+    /// `OutOfMemory`, also above 64 bits.
+    fn behind(
+        mut self,
+        alloc: Global,
+        rules: PackedRules,
+        length: Length,
+    ) -> Result<DueMembers, DecodeError>
         requires { IsLength length }
         ensures ok { IfOk result (λ members. AreBehind rules self length members.due members.tally) }
         ensures only { IfErr result (NoneAreBehind rules self length) }
         ensures fresh { IfErr result IsFresh }
     {
+        if !length.may_follow(rules, self.last) {
+            return Err(DecodeError::NotValidCanonicalEncoding);
+        }
+        let due = length.count();
+        let Some(counted) = self.counted.checked_add(due) else {
+            return Err(DecodeError::OutOfMemory);
+        };
         match length {
             Length::Fragment(multiple) => {
-                self.fragments.push(multiple as u8)?;
-                let due = multiple * FRAGMENT;
-                let alloc = *self.fragments.allocator();
+                self.counted = counted;
+                self.last = multiple;
                 let boxed = Box::new(alloc, self)?;
                 let tally = Some(boxed);
                 Ok(DueMembers { due, tally })
             }
-            Length::Short(due) => {
-                let Some(total) = self.admitted(due) else {
+            Length::Short(_) => {
+                if !is_admitted(self.sizes.root, self.held, self.is_outside, counted) {
                     return Err(DecodeError::SizeConstraintNotSatisfied);
-                };
-                if !self.is_accepted(rules, total) {
+                }
+                if !is_accepted_outside(rules, self.sizes.root, self.is_outside, counted) {
                     return Err(DecodeError::NotValidCanonicalEncoding);
                 }
                 Ok(DueMembers { due, tally: None })
@@ -177,9 +152,10 @@ impl DueMembers {
         }
         match self.tally.take() {
             Some(boxed) => {
+                let alloc = *Box::allocator(&boxed);
                 let tally = Box::into_inner(boxed);
                 let length = read_length(cursor, rules)?;
-                *self = tally.behind(rules, length)?;
+                *self = tally.behind(alloc, rules, length)?;
                 Ok(self.take_member())
             }
             None => Ok(false),
@@ -215,42 +191,6 @@ impl DueMembers {
     }
 }
 
-/// Whether a fragment of `multiple` times 16384 elements may follow one of `before` times 16384, if the largest ones
-/// come first.
-fn may_be_behind(before: u8, multiple: u8) -> bool
-    ensures { result ≡ (before == 4 && (leb 1 multiple && leb multiple 4)) }
-{
-    before == 4 && (1 <= multiple && multiple <= 4)
-}
-
-/// Whether the largest fragments come first: all except the last one have four times 16384 elements (X.691 11.9.3.8).
-#[cold]
-#[inline(never)]
-fn are_largest_first(fragments: &[u8]) -> bool
-    ensures { result ≡ largest_behind 4 fragments.now }
-{
-    let mut before: u8 = 4;
-    for fragment in fragments {
-        if !may_be_behind(before, *fragment) {
-            return false;
-        }
-        before = *fragment;
-    }
-    true
-}
-
-/// The number of elements in fragments of these multiples of 16384 and of `last` more, or `None` above 64 bits.
-fn total_of(fragments: &[u8], last: usize) -> Option<usize>
-    ensures some { IfSome result (λ count. count ≡ in_all fragments.now last) }
-    ensures none { IfNone result (2 ^ 64 ≤ in_all fragments.now last) }
-{
-    let mut total: usize = 0;
-    for fragment in fragments {
-        total = total.checked_add(usize::from(*fragment) * FRAGMENT)?;
-    }
-    total.checked_add(last)
-}
-
 /// Reads what precedes the elements of a SEQUENCE OF or SET OF under a size constraint (X.691 20 and 22).
 ///
 /// # Errors
@@ -283,9 +223,10 @@ pub fn read_members(
                 sizes,
                 held,
                 is_outside: heading.is_outside,
-                fragments: Vec::new(alloc),
+                counted: 0,
+                last: 4,
             };
-            tally.behind(rules, length)
+            tally.behind(alloc, rules, length)
         }
     }
 }

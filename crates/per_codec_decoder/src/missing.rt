@@ -4,7 +4,7 @@ ghost use Rattle.asn1_schema_constraints.specs.Terms.{size_of};
 ghost use Rattle.per_codec_laws.specs.Takes.{Front};
 ghost use Rattle.per_codec_reading.specs.Fronts.{freedoms, is_aligned};
 ghost use Rattle.per_codec_reading.specs.Lengths.{length_form, IsLength};
-ghost use Rattle.per_codec_reading.specs.Sizes.{contents_have_padding, sized_units};
+ghost use Rattle.per_codec_reading.specs.Headings.{contents_have_padding, sized_units};
 ghost use Rattle.per_codec_reading.specs.Units.{counted_units};
 ghost use Rattle.per_codec_reading.specs.declared.sized.Contents.TheVariants.{Strings};
 ghost use Rattle.per_codec_decoder.specs.Missing.{StillTooShort};

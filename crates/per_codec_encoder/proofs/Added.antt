@@ -1,5 +1,5 @@
 -- Additions that begin, continue and end, in the bits and the frames of an encoder.
-use Rattle.std.proofs.Common.{◌≡◌, ℕ, zero, suc, ◌-◌, ◌<◌, Bool, true, false, cond, List, [], ◌∷◌, ◌++◌, length, reverse, Option, Some, None, option_map, refl, ap, subst, sym, ◌∙◌, arith}
+use Rattle.std.proofs.Common.{◌≡◌, ℕ, zero, suc, ◌-◌, ◌<◌, Bool, true, false, cond, List, [], ◌∷◌, ◌++◌, length, Option, Some, None, option_map, refl, ap, subst, sym, ◌∙◌, arith}
 use Rattle.std.proofs.lemmas.List.{append-nil}
 use Rattle.asn1_schema_laws.specs.Records.{additions_begin, addition, addition_ends}
 use Rattle.per_codec_packing.specs.FieldLists.{FieldList, as_field_list, plain}
@@ -20,14 +20,17 @@ kept due given start end v = record { due = due; given = given; start = start; e
 
 -- ---- they begin
 
-module _ (fs rest : List Frame) (f : Frame) (e : Bool) (due given : ℕ) (start : Position) (o : Packed) (a : fs ≡ rest ++ f ∷ []) (b : f ≡ Components e due given start) where
-  pub does_begin_additions : (gs : List Frame) (end : Position) (count : ℕ) (v : List (Option (List Bool))) → e ≡ true → due ≡ 0 → end.bits ≡ length (solid o.field_list) → at end ≡ length o.field_list → v ≡ [] → gs ≡ rest ++ Added (kept count given start end v) ∷ [] → (al : Bool) → Does al (additions_begin count) fs o gs o
-  does_begin_additions gs end count v c d k l i y al = record { after = λ s h. go s (on_top fs rest f (Components true 0 given start) o s a (b ∙ (ap (λ x. Components x due given start) c ∙ ap (λ k. Components true k given start) d)) h) }
+module _ (fs rest : List Frame) (f : Frame) (e : Bool) (due given : ℕ) (start : Position) (o : Packed) (a : fs ≡ f ∷ rest) (b : f ≡ Components e due given start) where
+  pub does_begin_additions : (gs : List Frame) (end : Position) (count : ℕ) (v : List (Option (List Bool))) → e ≡ true → due ≡ 0 →
+      end.bits ≡ length (solid o.field_list) → at end ≡ length o.field_list → v ≡ [] → gs ≡ Added (kept count given start end v) ∷ rest → (al : Bool) → Does al (additions_begin count) fs o gs o
+  does_begin_additions gs end count v c d k l i y al =
+      record { after = λ s h. go s (on_top fs rest f (Components true 0 given start) o s a (b ∙ (ap (λ x. Components x due given start) c ∙ ap (λ k. Components true k given start) d)) h) }
     where
-      go : (s : State) → IsOpen (λ q t. Holds (reverse rest) q t) true 0 given start o s → (t : State) × (run al (additions_begin count) s ≡ Some t) × Holds (reverse gs) o t
+      go : (s : State) → IsOpen (λ q t. Holds rest q t) true 0 given start o s → (t : State) × (run al (additions_begin count) s ≡ Some t) × Holds gs o t
       go s h =
           let z : State = ([], added count h.presence_bits h.inner [] h.outer.0 ∷ h.outer.1) in
-          let field_list_is : o.field_list ≡ h.front ++ (as_field_list (preamble true h.presence_bits) ++ h.inner) = h.field_list ∙ ap (λ l. h.front ++ (as_field_list (preamble true l) ++ h.inner)) (append-nil h.presence_bits) in (
+          let field_list_is : o.field_list ≡ h.front ++ (as_field_list (preamble true h.presence_bits) ++ h.inner) = h.field_list ∙
+          ap (λ l. h.front ++ (as_field_list (preamble true l) ++ h.inner)) (append-nil h.presence_bits) in (
             z,
             ap (run al (additions_begin count)) h.is,
             put_back rest gs (Added (kept count given start end v)) o z y (record {
@@ -47,7 +50,7 @@ module _ (fs rest : List Frame) (f : Frame) (e : Bool) (due given : ℕ) (start 
             }),
           )
 
-  pub no_additions_begin : (al : Bool) (count : ℕ) → (e ≡ true → 0 < due) → (s : State) → Holds (reverse fs) o s → run al (additions_begin count) s ≡ None
+  pub no_additions_begin : (al : Bool) (count : ℕ) → (e ≡ true → 0 < due) → (s : State) → Holds fs o s → run al (additions_begin count) s ≡ None
   no_additions_begin al count n s q = let h = on_top fs rest f (Components e due given start) o s a b q in ap (run al (additions_begin count)) h.is ∙ go e due n h.inner h.presence_bits h.outer
     where
       go : (e : Bool) (due : ℕ) → (e ≡ true → 0 < due) → (os : FieldList) (ms : List Bool) (t : State) → run al (additions_begin count) (os, components e due ms t.0 ∷ t.1) ≡ None
@@ -79,14 +82,14 @@ module _ (below : Packed → State → Type 0) (due given : ℕ) (start end : Po
     is = refl;
   }
 
-module _ (fs rest : List Frame) (f : Frame) (ad : Additions) (o : Packed) (a : fs ≡ rest ++ f ∷ []) (b : f ≡ Added ad) where
+module _ (fs rest : List Frame) (f : Frame) (ad : Additions) (o : Packed) (a : fs ≡ f ∷ rest) (b : f ≡ Added ad) where
   abbrev below : Packed → State → Type 0
-  below q t = Holds (reverse rest) q t
+  below q t = Holds rest q t
 
   abbrev Open : State → Type 0
   Open s = IsAdded below ad.due ad.given ad.start ad.end ad.slots o s
 
-  top : (s : State) → Holds (reverse fs) o s → Open s
+  top : (s : State) → Holds fs o s → Open s
   top s h = on_top fs rest f (Added ad) o s a b h
 
   abbrev then_state : (s : State) → Open s → ℕ → List (Option (List Bool)) → State
@@ -100,27 +103,38 @@ module _ (fs rest : List Frame) (f : Frame) (ad : Additions) (o : Packed) (a : f
       let one : ad.due ≡ suc (ad.due - 1) = omega arith in
       ap (run al (addition present)) (h.is ∙ ap (λ k. then_state s h k ad.slots) one)
 
-  pub does_pass : (gs : List Frame) (v : List (Option (List Bool))) (present : Bool) → present ≡ false → (ad.due ≡ 0 → ⊥) → v ≡ ad.slots ++ None ∷ [] → gs ≡ rest ++ Added (kept (ad.due - 1) ad.given ad.start ad.end v) ∷ [] → (al : Bool) → Does al (addition present) fs o gs o
+  pub does_pass : (gs : List Frame) (v : List (Option (List Bool))) (present : Bool) → present ≡ false → (ad.due ≡ 0 → ⊥) →
+      v ≡ ad.slots ++ None ∷ [] → gs ≡ Added (kept (ad.due - 1) ad.given ad.start ad.end v) ∷ rest → (al : Bool) → Does al (addition present) fs o gs o
   does_pass gs v true p n i y al = cc
   does_pass gs v false p n i y al = record { after = λ s h. go s (top s h) }
     where
-      go : (s : State) → Open s → (t : State) × (run al (addition false) s ≡ Some t) × Holds (reverse gs) o t
+      go : (s : State) → Open s → (t : State) × (run al (addition false) s ≡ Some t) × Holds gs o t
       go s h =
-          let slots : List (Option (List Bool)) = ad.slots ++ None ∷ [] in
-          (then_state s h (ad.due - 1) slots, one_due s h al false n, put_back rest gs (Added (kept (ad.due - 1) ad.given ad.start ad.end v)) o (then_state s h (ad.due - 1) slots) y (then_open s h (ad.due - 1) slots v i))
+          let slots : List (Option (List Bool)) = ad.slots ++ None ∷ [] in (
+            then_state s h (ad.due - 1) slots,
+            one_due s h al false n,
+            put_back rest gs (Added (kept (ad.due - 1) ad.given ad.start ad.end v)) o
+                (then_state s h (ad.due - 1) slots) y (then_open s h (ad.due - 1) slots v i),
+          )
 
-  pub does_open : (gs hs : List Frame) (v : List (Option (List Bool))) (outer p : Packed) (present : Bool) → present ≡ true → (ad.due ≡ 0 → ⊥) → v ≡ ad.slots → outer ≡ o → p ≡ record { field_list = []; placed = true } → gs ≡ rest ++ Added (kept (ad.due - 1) ad.given ad.start ad.end v) ∷ [] → hs ≡ gs ++ OpenType outer ∷ [] → (al : Bool) → Does al (addition present) fs o hs p
+  pub does_open : (gs hs : List Frame) (v : List (Option (List Bool))) (outer p : Packed) (present : Bool) → present ≡ true → (ad.due ≡ 0 → ⊥) →
+      v ≡ ad.slots → outer ≡ o → p ≡ record { field_list = []; placed = true } → gs ≡ Added (kept (ad.due - 1) ad.given ad.start ad.end v) ∷ rest →
+      hs ≡ OpenType outer ∷ gs → (al : Bool) → Does al (addition present) fs o hs p
   does_open gs hs v outer p false c n j i e y x al = cc
   does_open gs hs v outer p true c n j i e y x al = record { after = λ s h. go s (top s h) }
     where
-      go : (s : State) → Open s → (t : State) × (run al (addition true) s ≡ Some t) × Holds (reverse hs) p t
+      go : (s : State) → Open s → (t : State) × (run al (addition true) s ≡ Some t) × Holds hs p t
       go s h =
           let t : State = then_state s h (ad.due - 1) ad.slots in
           let z : State = ([], open_type t.0 ∷ t.1) in
-          let under : Holds (reverse gs) o t = put_back rest gs (Added (kept (ad.due - 1) ad.given ad.start ad.end v)) o t y (then_open s h (ad.due - 1) ad.slots v j) in
-          (z, one_due s h al true n, put_back gs hs (OpenType outer) p z x (t, ap (λ (l : Packed). let q : State = (l.field_list, open_type t.0 ∷ t.1) in q) (sym e), ap (λ (l : Packed). l.placed) e, subst (λ l. Holds (reverse gs) l t) (sym i) under))
+          let under : Holds gs o t = put_back rest gs (Added (kept (ad.due - 1) ad.given ad.start ad.end v)) o t y (then_open s h (ad.due - 1) ad.slots v j) in (
+            z,
+            one_due s h al true n,
+            put_back gs hs (OpenType outer) p z x
+                (t, ap (λ (l : Packed). let q : State = (l.field_list, open_type t.0 ∷ t.1) in q) (sym e), ap (λ (l : Packed). l.placed) e, subst (λ l. Holds gs l t) (sym i) under),
+          )
 
-  pub none_due : (al present : Bool) → ad.due ≡ 0 → (s : State) → Holds (reverse fs) o s → run al (addition present) s ≡ None
+  pub none_due : (al present : Bool) → ad.due ≡ 0 → (s : State) → Holds fs o s → run al (addition present) s ≡ None
   none_due al present n s q = let h = top s q in ap (run al (addition present)) (h.is ∙ ap (λ k. then_state s h k ad.slots) n)
 
 -- the additions after the next one, by their parts
@@ -133,26 +147,35 @@ next_is {here} {x} {y} n =
 
 pub does_no_addition : (present : Bool) (fs gs : List Frame) (o : Packed) → present ≡ false → CountsAddition present fs gs → (al : Bool) → Does al (addition present) fs o gs o
 does_no_addition present fs gs o e c al =
-    does_pass fs c.around (Added c.old) c.old o c.before refl gs c.new.slots present e (λ z. absurd (omega (arith, z, c.next.one))) (c.next.slots ∙ ap (λ b. cond b c.old.slots (c.old.slots ++ None ∷ [])) e) (c.after ∙ ap (λ x. c.around ++ Added x ∷ []) (next_is c.next)) al
+    does_pass fs c.around (Added c.old) c.old o c.before refl gs c.new.slots present e (λ z. absurd (omega (arith, z, c.next.one)))
+    (c.next.slots ∙ ap (λ b. cond b c.old.slots (c.old.slots ++ None ∷ [])) e) (c.after ∙ ap (λ x. Added x ∷ c.around) (next_is c.next)) al
 
-pub does_addition : (present : Bool) (fs gs hs : List Frame) (o outer p : Packed) → present ≡ true → CountsAddition present fs gs → outer ≡ o → p ≡ record { field_list = []; placed = true } → hs ≡ gs ++ OpenType outer ∷ [] → (al : Bool) → Does al (addition present) fs o hs p
+pub does_addition : (present : Bool) (fs gs hs : List Frame) (o outer p : Packed) → present ≡ true → CountsAddition present fs gs → outer ≡ o →
+    p ≡ record { field_list = []; placed = true } → hs ≡ OpenType outer ∷ gs → (al : Bool) → Does al (addition present) fs o hs p
 does_addition present fs gs hs o outer p e c i n x al =
-    does_open fs c.around (Added c.old) c.old o c.before refl gs hs c.new.slots outer p present e (λ z. absurd (omega (arith, z, c.next.one))) (c.next.slots ∙ ap (λ b. cond b c.old.slots (c.old.slots ++ None ∷ [])) e) i n (c.after ∙ ap (λ x. c.around ++ Added x ∷ []) (next_is c.next)) x al
+    does_open fs c.around (Added c.old) c.old o c.before refl gs hs c.new.slots outer p present e (λ z. absurd (omega (arith, z, c.next.one)))
+    (c.next.slots ∙ ap (λ b. cond b c.old.slots (c.old.slots ++ None ∷ [])) e) i n (c.after ∙ ap (λ x. Added x ∷ c.around) (next_is c.next)) x al
 
 -- ---- one that is present ends
 
-module _ (fs mid rest : List Frame) (f g : Frame) (ad : Additions) (outer o : Packed) (a : fs ≡ mid ++ f ∷ []) (b : f ≡ OpenType outer) where
-  pub does_end_addition : (gs : List Frame) (v : List (Option (List Bool))) (p : Packed) (contents : List Bool) → mid ≡ rest ++ g ∷ [] → g ≡ Added ad → p ≡ outer → (o.placed ≡ true → plain o.field_list ≡ Some contents) → v ≡ ad.slots ++ Some contents ∷ [] → gs ≡ rest ++ Added (kept ad.due ad.given ad.start ad.end v) ∷ [] → (al : Bool) → Does al addition_ends fs o gs p
+module _ (fs mid rest : List Frame) (f g : Frame) (ad : Additions) (outer o : Packed) (a : fs ≡ f ∷ mid) (b : f ≡ OpenType outer) where
+  pub does_end_addition : (gs : List Frame) (v : List (Option (List Bool))) (p : Packed) (contents : List Bool) → mid ≡ g ∷ rest → g ≡ Added ad →
+      p ≡ outer → (o.placed ≡ true → plain o.field_list ≡ Some contents) → v ≡ ad.slots ++ Some contents ∷ [] →
+      gs ≡ Added (kept ad.due ad.given ad.start ad.end v) ∷ rest → (al : Bool) → Does al addition_ends fs o gs p
   does_end_addition gs v p contents c d e i j y al = record { after = λ s h. let k = on_top fs mid f (OpenType outer) o s a b h in go s k (on_top mid rest g (Added ad) outer k.0 c d k.3) }
     where
-      go : (s : State) (k : Holds (OpenType outer ∷ reverse mid) o s) → IsAdded (λ q t. Holds (reverse rest) q t) ad.due ad.given ad.start ad.end ad.slots outer k.0 → (t : State) × (run al addition_ends s ≡ Some t) × Holds (reverse gs) p t
+      go : (s : State) (k : Holds (OpenType outer ∷ mid) o s) → IsAdded (λ q t. Holds rest q t) ad.due ad.given ad.start ad.end ad.slots outer k.0 →
+          (t : State) × (run al addition_ends s ≡ Some t) × Holds gs p t
       go s k h =
           let ends_with : List Bool → State = λ w. then_state mid rest g ad outer c d k.0 h ad.due (ad.slots ++ Some w ∷ []) in
           let slots : List (Option (List Bool)) = ad.slots ++ Some contents ∷ [] in
-          let inside : (let l : State = (o.field_list, open_type k.0.0 ∷ k.0.1) in l) ≡ (o.field_list, open_type h.inner ∷ added ad.due h.presence_bits h.root ad.slots h.outer.0 ∷ h.outer.1) = ap (λ (u : State). let l : State = (o.field_list, open_type u.0 ∷ u.1) in l) h.is in (
+          let inside : (let l : State = (o.field_list, open_type k.0.0 ∷ k.0.1) in l)
+          ≡ (o.field_list, open_type h.inner ∷ added ad.due h.presence_bits h.root ad.slots h.outer.0 ∷ h.outer.1) =
+          ap (λ (u : State). let l : State = (o.field_list, open_type u.0 ∷ u.1) in l) h.is in (
             ends_with contents,
             ap (run al addition_ends) (k.1 ∙ inside) ∙ ap (option_map ends_with) (i k.2),
-            put_back rest gs (Added (kept ad.due ad.given ad.start ad.end v)) p (ends_with contents) y (subst (λ l. IsAdded (λ q t. Holds (reverse rest) q t) ad.due ad.given ad.start ad.end v l (ends_with contents)) (sym e) (then_open mid rest g ad outer c d k.0 h ad.due slots v j)),
+            put_back rest gs (Added (kept ad.due ad.given ad.start ad.end v)) p (ends_with contents) y
+                (subst (λ l. IsAdded (λ q t. Holds rest q t) ad.due ad.given ad.start ad.end v l (ends_with contents)) (sym e) (then_open mid rest g ad outer c d k.0 h ad.due slots v j)),
           )
 
   -- only an addition ends like this
@@ -169,8 +192,8 @@ module _ (fs mid rest : List Frame) (f g : Frame) (ad : Additions) (outer o : Pa
   not_added (Bag x ∷ gs) q t h n = ap (λ (u : State). added_one o.field_list (open_type u.0 ∷ u.1)) h.1
   not_added (Alternative ∷ gs) q t h n = ap (λ (u : State). added_one o.field_list (open_type u.0 ∷ u.1)) h.1
 
-  pub no_end_addition : IsNotAdded (reverse mid) → (al : Bool) (s : State) → Holds (reverse fs) o s → run al addition_ends s ≡ None
-  no_end_addition n al s h = let k = on_top fs mid f (OpenType outer) o s a b h in ap (run al addition_ends) k.1 ∙ not_added (reverse mid) outer k.0 k.3 n
+  pub no_end_addition : IsNotAdded mid → (al : Bool) (s : State) → Holds fs o s → run al addition_ends s ≡ None
+  no_end_addition n al s h = let k = on_top fs mid f (OpenType outer) o s a b h in ap (run al addition_ends) k.1 ∙ not_added mid outer k.0 k.3 n
 
 -- the additions with the bits of one more, by their parts
 keeps_is : {contents : List Bool} {x y : Additions} → Keeps contents x y → y ≡ kept x.due x.given x.start x.end y.slots
@@ -180,6 +203,7 @@ keeps_is {contents} {x} {y} n =
     ∙ (ap (λ p. kept x.due x.given p y.end y.slots) n.start
     ∙ ap (λ p. kept x.due x.given x.start p y.slots) n.end))
 
-pub does_keep_addition : (fs mid gs : List Frame) (f : Frame) (outer o p : Packed) (contents : List Bool) → fs ≡ mid ++ f ∷ [] → f ≡ OpenType outer → KeepsAddition contents mid gs → p ≡ outer → (o.placed ≡ true → plain o.field_list ≡ Some contents) → (al : Bool) → Does al addition_ends fs o gs p
+pub does_keep_addition : (fs mid gs : List Frame) (f : Frame) (outer o p : Packed) (contents : List Bool) → fs ≡ f ∷ mid → f ≡ OpenType outer →
+    KeepsAddition contents mid gs → p ≡ outer → (o.placed ≡ true → plain o.field_list ≡ Some contents) → (al : Bool) → Does al addition_ends fs o gs p
 does_keep_addition fs mid gs f outer o p contents a b k e i al =
-    does_end_addition fs mid k.around f (Added k.old) k.old outer o a b gs k.new.slots p contents k.before refl e i k.next.slots (k.after ∙ ap (λ x. k.around ++ Added x ∷ []) (keeps_is k.next)) al
+    does_end_addition fs mid k.around f (Added k.old) k.old outer o a b gs k.new.slots p contents k.before refl e i k.next.slots (k.after ∙ ap (λ x. Added x ∷ k.around) (keeps_is k.next)) al

@@ -10,7 +10,8 @@ use Rattle.per_codec_encoder.specs.Steps.{Scope, position, adds_field_list, runs
 use Rattle.per_codec_encoder.specs.Ties.{Bridges}
 
 -- one record that adds a field-list
-pub one_field_list : (al : Bool) (o : Option FieldList) (os : FieldList) (k : List Scope) (rest : List Record) → option_and_then (λ m. runs al rest m) (adds_field_list o (os, k)) ≡ option_and_then (λ w. runs al rest (os ++ w, k)) o
+pub one_field_list : (al : Bool) (o : Option FieldList) (os : FieldList) (k : List Scope) (rest : List Record) →
+    option_and_then (λ m. runs al rest m) (adds_field_list o (os, k)) ≡ option_and_then (λ w. runs al rest (os ++ w, k)) o
 one_field_list al None os k rest = refl
 one_field_list al (Some w) os k rest = refl
 

@@ -29,14 +29,22 @@ runs_chain al (r ∷ rs) a b h = go (λ m f. runs_chain al rs m b f) (run al r a
     go again (Some m) e f = (m, e, again m f)
 
 -- the records alone
-all_of : (al : Bool) (s : Schema) (v : Value) (os : FieldList) (k : List Scope) → runs al (presents s v) (os, k) ≡ option_and_then {U = State} (λ w. Some (os ++ w, k)) (field_list_at (Per.form al s v) (position (os, k)))
+all_of : (al : Bool) (s : Schema) (v : Value) (os : FieldList) (k : List Scope) → runs al (presents s v) (os, k)
+    ≡ option_and_then {U = State} (λ w. Some (os ++ w, k)) (field_list_at (Per.form al s v) (position (os, k)))
 all_of al s v os k = ap (λ l. runs al l (os, k)) (sym (append-nil (presents s v))) ∙ every_type s al v os k []
 
 -- the records of a value are a chain exactly from what is held to that with the value's field-list appended
-pub added : (al : Bool) (s : Schema) (v : Value) (os : FieldList) (k : List Scope) (new : State) → Chain (Step al) (presents s v) (os, k) new ↔ ((w : FieldList) × (field_list_at (Per.form al s v) (position (os, k)) ≡ Some w) × (new ≡ (os ++ w, k)))
-added al s v os k new = (λ c. go (field_list_at (Per.form al s v) (position (os, k))) refl (sym (all_of al s v os k) ∙ chain_runs al (presents s v) (os, k) new c), λ t. runs_chain al (presents s v) (os, k) new (all_of al s v os k ∙ ap (option_and_then (λ w. Some (os ++ w, k))) t.1 ∙ ap Some (sym t.2)))
+pub added : (al : Bool) (s : Schema) (v : Value) (os : FieldList) (k : List Scope) (new : State) →
+    Chain (Step al) (presents s v) (os, k) new ↔ ((w : FieldList) × (field_list_at (Per.form al s v) (position (os, k)) ≡ Some w) × (new ≡ (os ++ w, k)))
+added al s v os k new = (
+  λ c. go (field_list_at (Per.form al s v) (position (os, k))) refl
+      (sym (all_of al s v os k) ∙ chain_runs al (presents s v) (os, k) new c),
+  λ t.
+      runs_chain al (presents s v) (os, k) new (all_of al s v os k ∙ ap (option_and_then (λ w. Some (os ++ w, k))) t.1 ∙ ap Some (sym t.2)),
+)
   where
-    go : (o : Option FieldList) → field_list_at (Per.form al s v) (position (os, k)) ≡ o → option_and_then (λ w. Some (os ++ w, k)) o ≡ Some new → (w : FieldList) × (field_list_at (Per.form al s v) (position (os, k)) ≡ Some w) × (new ≡ (os ++ w, k))
+    go : (o : Option FieldList) → field_list_at (Per.form al s v) (position (os, k)) ≡ o → option_and_then (λ w. Some (os ++ w, k)) o ≡ Some new →
+        (w : FieldList) × (field_list_at (Per.form al s v) (position (os, k)) ≡ Some w) × (new ≡ (os ++ w, k))
     go None e f = cc
     go (Some w) e f = (w, e, let q : new ≡ (os ++ w, k) = cc in q)
 

@@ -1,5 +1,7 @@
 -- Whether a number of elements has a heading, which is known without it.
-use Rattle.std.proofs.Common.{◌≡◌, ℕ, ◌+◌, ◌-◌, ◌*◌, ◌/◌, ◌<◌, ◌≤◌, ltb, leb, Bool, true, false, cond, ◌&&◌, ◌||◌, [], ◌∷◌, replicate, Option, Some, None, option_map, refl, ap, sym, subst, ◌∙◌, inl, inr, arith}
+use Rattle.std.proofs.Common.{◌≡◌, ℕ, ◌+◌, ◌-◌, ◌*◌, ◌/◌, ◌<◌, ◌≤◌, ltb, leb, Bool, true, false, cond, ◌&&◌, ◌||◌, []}
+use Rattle.std.proofs.Common.{◌∷◌, replicate, Option, Some, None, option_map, refl, ap, sym, subst, ◌∙◌, inl, inr}
+use Rattle.std.proofs.Common.{arith}
 use Rattle.std.specs.Prelude.{min, ◌^◌}
 use Rattle.std.proofs.lemmas.Bool.{ltb-true, ltb-false, le-leb, leb-true, and_parts, cases_lt}
 use Rattle.std.proofs.lemmas.List.{length-replicate}
@@ -102,11 +104,14 @@ module _ (al : Bool) where
           mapped (λ w. before_all n w) _ (constrained_there (high - c.low) (n - c.low) q (omega (arith, low, up)) (omega (arith, l)))
       go false t = general_there al n q
 
-extensible_there : (e b : Bool) (root outside : Option ℕ → Option Heading) → (b ≡ true → (q : Option ℕ) → IsThere (root q)) → ((q : Option ℕ) → IsThere (outside q)) → (e || b) ≡ true → (q : Option ℕ) → IsThere (extensible_count e b root outside q)
+extensible_there : (e b : Bool) (root outside : Option ℕ → Option Heading) → (b ≡ true → (q : Option ℕ) → IsThere (root q)) →
+    ((q : Option ℕ) → IsThere (outside q)) → (e || b) ≡ true → (q : Option ℕ) → IsThere (extensible_count e b root outside q)
 extensible_there false true root outside r o h q = r refl q
 extensible_there false false root outside r o h q = cc
-extensible_there true true root outside r o h q = mapped (λ (h : Heading). let g : Heading = record { field_list = bit false ∷ h.field_list; due = h.due; determinants = h.determinants } in g) (root (moved q 1)) (r refl (moved q 1))
-extensible_there true false root outside r o h q = mapped (λ (h : Heading). let g : Heading = record { field_list = bit true ∷ h.field_list; due = h.due; determinants = h.determinants } in g) (outside (moved q 1)) (o (moved q 1))
+extensible_there true true root outside r o h q = mapped (λ (h : Heading). let g : Heading =
+    record { field_list = bit false ∷ h.field_list; due = h.due; determinants = h.determinants } in g) (root (moved q 1)) (r refl (moved q 1))
+extensible_there true false root outside r o h q = mapped (λ (h : Heading). let g : Heading =
+    record { field_list = bit true ∷ h.field_list; due = h.due; determinants = h.determinants } in g) (outside (moved q 1)) (o (moved q 1))
 
 -- A number of elements has a heading if the Rust type holds it, and it is in the root of the size or the size is
 -- extensible.

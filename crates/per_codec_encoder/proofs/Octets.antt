@@ -11,7 +11,8 @@ use Rattle.per_codec_packing.proofs.Formed.{plain_field_list}
 
 padding_written : (n p : ℕ) → written (Per.padding n) p ≡ Some (replicate n false)
 unfolding Per.padding written
-padding_written n p = let h : (length (replicate n false) == n) ≡ true = eq-eqb _ _ (length-replicate n false) in ap (λ (t : Bool). written (only_if {F = Per.Freedom} {D = Per.Detail} t (exactly (replicate n false))) p) h
+padding_written n p = let h : (length (replicate n false) == n) ≡ true = eq-eqb _ _ (length-replicate n false) in
+    ap (λ (t : Bool). written (only_if {F = Per.Freedom} {D = Per.Detail} t (exactly (replicate n false))) p) h
 
 some_padded : (b : Bool) (bs : List Bool) → written (Per.padded (b ∷ bs)) 0 ≡ Some (padded (b ∷ bs))
 unfolding Per.padded written

@@ -1,9 +1,14 @@
 -- In the forms of PER only padding depends on the position, so a field-list at an unknown position determines the
 -- field-list at each.
-use Rattle.std.proofs.Common.{◌≡◌, ℕ, ℤ, zero, suc, ◌-◌, ◌==◌, leb, ltb, Bool, true, false, cond, not, ◌&&◌, ◌||◌, List, [], ◌∷◌, ◌++◌, length, map, flat_map, take, drop, Option, Some, None, option_map, option_and_then, refl, ap, sym, ◌∙◌}
+use Rattle.std.proofs.Common.{◌≡◌, ℕ, ℤ, zero, suc, ◌-◌, ◌==◌, leb, ltb, Bool, true, false, cond, not, ◌&&◌, ◌||◌, List}
+use Rattle.std.proofs.Common.{[], ◌∷◌, ◌++◌, length, map, flat_map, take, drop, Option, Some, None, option_map}
+use Rattle.std.proofs.Common.{option_and_then, refl, ap, sym, ◌∙◌}
 use Rattle.std.proofs.lemmas.List.{append-nil}
 use Rattle.asn1_model.specs.Value.{Value, truth, nothing, number, item, bit_list, octet_list, text, arcs, members, bag, fields, chosen, Values, no_more, member, each, Parts, end, absent, present}
-use Rattle.asn1_model.specs.Schema.{Range, Bounds, Counts, Size, StringKind, Alphabet, Presence, Schema, boolean, null, integer, enumerated, bit_string, octet_string, character_string, object_identifier, sequence_of, set_of, sequence, set, group, choice, Components, no_component, component, Alternatives, no_alternative, alternative}
+use Rattle.asn1_model.specs.Schema.{Range, Bounds, Counts, Size, StringKind, Alphabet, Presence, Schema, boolean, null}
+use Rattle.asn1_model.specs.Schema.{integer, enumerated, bit_string, octet_string, character_string, object_identifier}
+use Rattle.asn1_model.specs.Schema.{sequence_of, set_of, sequence, set, group, choice, Components, no_component}
+use Rattle.asn1_model.specs.Schema.{component, Alternatives, no_alternative, alternative}
 use Rattle.asn1_model.specs.Normal.{is_at_default, is_group_left_out}
 use Rattle.asn1_model.specs.Normal.{is_required, presence_bits}
 use Rattle.asn1_model.specs.Strings.{Run, permitted, may_hold, is_of_octets, is_octet}
@@ -30,12 +35,19 @@ padding_refused = record { at = λ q. refl }
 
 padding_both : {x y : Per.BitForm} → PaddingAlone x → PaddingAlone y → PaddingAlone (both x y)
 unfolding field_list_at
-padding_both {x} {y} h k = record { at = λ q. ap (option_and_then (λ a. option_map (λ b. a ++ b) (field_list_at y (on q a)))) (h.at q) ∙ first q (field_list_at x None) (field_list_at y None) (λ p. k.at p) }
+padding_both {x} {y} h k = record {
+  at = λ q. ap (option_and_then (λ a. option_map (λ b. a ++ b) (field_list_at y (on q a)))) (h.at q) ∙
+      first q (field_list_at x None) (field_list_at y None) (λ p. k.at p);
+}
   where
-    first : (q : Option ℕ) (o u : Option FieldList) → ((p : Option ℕ) → field_list_at y p ≡ option_and_then (λ t. field_list_at (as_form t) p) u) → option_and_then (λ a. option_map (λ b. a ++ b) (field_list_at y (on q a))) (option_and_then (λ t. field_list_at (as_form t) q) o) ≡ option_and_then (λ t. field_list_at (as_form t) q) (option_and_then (λ a. option_map (λ b. a ++ b) u) o)
+    first : (q : Option ℕ) (o u : Option FieldList) → ((p : Option ℕ) → field_list_at y p ≡ option_and_then (λ t. field_list_at (as_form t) p) u) →
+        option_and_then (λ a. option_map (λ b. a ++ b) (field_list_at y (on q a))) (option_and_then (λ t. field_list_at (as_form t) q) o)
+        ≡ option_and_then (λ t. field_list_at (as_form t) q) (option_and_then (λ a. option_map (λ b. a ++ b) u) o)
     first q None u h = refl
-    first q (Some a) None h = chain_same (field_list_at (as_form a) q) (λ c. option_map (λ b. c ++ b) (field_list_at y (on q c))) (λ c. None) (λ c. ap (option_map (λ b. c ++ b)) (h (on q c))) ∙ none_behind (field_list_at (as_form a) q)
-    first q (Some a) (Some b) h = chain_same (field_list_at (as_form a) q) (λ c. option_map (λ b. c ++ b) (field_list_at y (on q c))) (λ c. option_map (λ d. c ++ d) (field_list_at (as_form b) (on q c))) (λ c. ap (option_map (λ b. c ++ b)) (h (on q c))) ∙ sym (as_form-append a b q)
+    first q (Some a) None h = chain_same (field_list_at (as_form a) q) (λ c. option_map (λ b. c ++ b) (field_list_at y (on q c))) (λ c. None)
+        (λ c. ap (option_map (λ b. c ++ b)) (h (on q c))) ∙ none_behind (field_list_at (as_form a) q)
+    first q (Some a) (Some b) h = chain_same (field_list_at (as_form a) q) (λ c. option_map (λ b. c ++ b) (field_list_at y (on q c)))
+        (λ c. option_map (λ d. c ++ d) (field_list_at (as_form b) (on q c))) (λ c. ap (option_map (λ b. c ++ b)) (h (on q c))) ∙ sym (as_form-append a b q)
 
 padding_itself : PaddingAlone (placed (λ p. Per.padding (Per.missing p)))
 unfolding field_list_at
@@ -45,7 +57,8 @@ padding_itself = record { at = go }
     put None = refl
     put (Some w) = ap Some (sym (append-nil w))
 
-    go : (q : Option ℕ) → field_list_at (placed (λ p. Per.padding (Per.missing p))) q ≡ option_and_then (λ t. field_list_at (as_form t) q) (field_list_at (placed (λ p. Per.padding (Per.missing p))) None)
+    go : (q : Option ℕ) → field_list_at (placed (λ p. Per.padding (Per.missing p))) q ≡ option_and_then (λ t. field_list_at (as_form t) q)
+        (field_list_at (placed (λ p. Per.padding (Per.missing p))) None)
     go None = refl
     go (Some p) = put (field_list_at (Per.padding (Per.missing p)) (Some p))
 
@@ -57,7 +70,8 @@ padding_within : {x : Per.BitForm} {f : List Bool → Per.BitForm} → ((w : Lis
 unfolding field_list_at
 padding_within {x} {f} h = record { at = λ q. go q (written x 0) }
   where
-    go : (q : Option ℕ) (o : Option (List Bool)) → option_and_then (λ w. field_list_at (f w) q) o ≡ option_and_then (λ t. field_list_at (as_form t) q) (option_and_then (λ w. field_list_at (f w) None) o)
+    go : (q : Option ℕ) (o : Option (List Bool)) → option_and_then (λ w. field_list_at (f w) q) o
+        ≡ option_and_then (λ t. field_list_at (as_form t) q) (option_and_then (λ w. field_list_at (f w) None) o)
     go q None = refl
     go q (Some w) = (h w).at q
 
@@ -113,7 +127,8 @@ at_octet_padding false h = h
 
 in_octets_padding : (whole : ℕ → ℕ → Per.BitForm) → ((s c : ℕ) → PaddingAlone (whole s c)) → (al : Bool) (span d k : ℕ) → PaddingAlone (Per.in_octets_of whole al span d k)
 unfolding Per.in_octets_of
-in_octets_padding whole h al span d k = padding_if (leb (least_octets d) k && leb k (octet_width span)) (padding_both (h (octet_width span - 1) (k - 1)) (at_octet_padding al (padding_exactly (flat_map (binary 8) (digits 256 k d)))))
+in_octets_padding whole h al span d k = padding_if (leb (least_octets d) k && leb k (octet_width span))
+    (padding_both (h (octet_width span - 1) (k - 1)) (at_octet_padding al (padding_exactly (flat_map (binary 8) (digits 256 k d)))))
 
 constrained_in_padding : (most : ℕ) (al : Bool) (span d : ℕ) → PaddingAlone (Per.constrained_in most al span d)
 unfolding Per.constrained_in
@@ -136,7 +151,8 @@ short_length_padding al n = at_octet_padding al (padding_varied (padding_cond _ 
 fragments_padding : (al : Bool) (ms : List ℕ) (us : List Per.BitForm) → AllPaddingAlone us → PaddingAlone (Per.fragments al ms us)
 unfolding Per.fragments
 fragments_padding al [] us h = padding_both (short_length_padding al _) (joined_padding us h)
-fragments_padding al (m ∷ ms) us h = padding_if _ (padding_both (at_octet_padding al (padding_exactly _)) (padding_both (joined_padding _ (take_padding _ us h)) (fragments_padding al ms _ (drop_padding _ us h))))
+fragments_padding al (m ∷ ms) us h =
+    padding_if _ (padding_both (at_octet_padding al (padding_exactly _)) (padding_both (joined_padding _ (take_padding _ us h)) (fragments_padding al ms _ (drop_padding _ us h))))
 
 counted_padding : (al : Bool) (us : List Per.BitForm) → AllPaddingAlone us → PaddingAlone (Per.counted al us)
 unfolding Per.counted
@@ -224,17 +240,22 @@ item_padding al n false None j = padding_refused
 
 open_padding : (al : Bool) (x : Per.BitForm) → PaddingAlone (Per.open_type al x)
 unfolding Per.open_type
-open_padding al x = padding_within (λ w. padding_varied (counted_padding al (map (λ o. exactly o) (Per.by_eights (w ++ []))) (map_padding (λ o. exactly o) (λ o. padding_exactly o) (Per.by_eights (w ++ [])))))
+open_padding al x = padding_within
+    (λ w. padding_varied (counted_padding al (map (λ o. exactly o) (Per.by_eights (w ++ []))) (map_padding (λ o. exactly o) (λ o. padding_exactly o) (Per.by_eights (w ++ [])))))
 
 spelled_padding : (o : Presence) (s : Schema) (v : Value) {x : Per.BitForm} → PaddingAlone x → PaddingAlone (Per.spelled o s v x)
 unfolding Per.spelled
 spelled_padding o s v h = padding_cond (is_at_default o s v) (padding_varied padding_refused) (padding_cond (is_group_left_out s v) (padding_varied padding_refused) h)
 
-presence_padding : (al : Bool) (ms : List Bool) (x : Per.BitForm) (xs : List (Option Per.BitForm)) → PaddingAlone x → AllPaddingAlone (present_ones xs) → PaddingAlone (by_presence al ms x xs (is_any_present xs))
+presence_padding : (al : Bool) (ms : List Bool) (x : Per.BitForm) (xs : List (Option Per.BitForm)) → PaddingAlone x →
+    AllPaddingAlone (present_ones xs) → PaddingAlone (by_presence al ms x xs (is_any_present xs))
 unfolding Per.with_additions Per.additions
-presence_padding al ms x xs h k = padding_cond (is_any_present xs) (padding_both (padding_exactly _) (padding_both h (padding_both (normally_few_padding al _ (map_padding Per.flag (λ a. padding_exactly _) xs)) (joined_padding _ k)))) (padding_both (padding_exactly _) h)
+presence_padding al ms x xs h k = padding_cond (is_any_present xs)
+    (padding_both (padding_exactly _)
+    (padding_both h (padding_both (normally_few_padding al _ (map_padding Per.flag (λ a. padding_exactly _) xs)) (joined_padding _ k)))) (padding_both (padding_exactly _) h)
 
-sequence_padding : (al e : Bool) (ms : List Bool) (x : Per.BitForm) (xs : List (Option Per.BitForm)) → PaddingAlone x → AllPaddingAlone (present_ones xs) → PaddingAlone (Per.sequence_form al e ms x xs)
+sequence_padding : (al e : Bool) (ms : List Bool) (x : Per.BitForm) (xs : List (Option Per.BitForm)) → PaddingAlone x →
+    AllPaddingAlone (present_ones xs) → PaddingAlone (Per.sequence_form al e ms x xs)
 unfolding Per.sequence_form
 sequence_padding al false ms x [] h k = padding_both (padding_exactly ms) h
 sequence_padding al false ms x (a ∷ xs) h k = padding_refused
@@ -279,14 +300,16 @@ module _ {K : Type 0} (key : Per.BitForm → Option K) (before : K → K → Boo
   last_padding [] h = tt
   last_padding (e ∷ es) h = (h.0, last_padding es h.1)
 
-  order_padding : (f : List Per.BitForm → Per.BitForm) → ((ys : List Per.BitForm) → AllPaddingAlone ys → PaddingAlone (f ys)) → (xs : List Per.BitForm) → AllPaddingAlone xs → PaddingAlone (given (ascending key before xs) f)
+  order_padding : (f : List Per.BitForm → Per.BitForm) → ((ys : List Per.BitForm) → AllPaddingAlone ys → PaddingAlone (f ys)) →
+      (xs : List Per.BitForm) → AllPaddingAlone xs → PaddingAlone (given (ascending key before xs) f)
   order_padding f h xs k = go (with_keys key before xs) (keyed_padding xs k)
     where
       go : (l : Option (List (K × Per.BitForm))) → MaybePaddingAlone l → PaddingAlone (given (option_map (map (λ e. e.1)) l) f)
       go None i = padding_refused
       go (Some es) i = h (map (λ e. e.1) es) (last_padding es i)
 
-bag_padding : (f : List Per.BitForm → Per.BitForm) → ((ys : List Per.BitForm) → AllPaddingAlone ys → PaddingAlone (f ys)) → (xs : List Per.BitForm) → AllPaddingAlone xs → PaddingAlone (Per.in_any_order xs f)
+bag_padding : (f : List Per.BitForm → Per.BitForm) → ((ys : List Per.BitForm) → AllPaddingAlone ys → PaddingAlone (f ys)) → (xs : List Per.BitForm) →
+    AllPaddingAlone xs → PaddingAlone (Per.in_any_order xs f)
 unfolding Per.in_any_order
 bag_padding f h xs k = padding_varied (order_padding _ _ f h xs k)
 

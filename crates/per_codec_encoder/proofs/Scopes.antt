@@ -1,6 +1,7 @@
 -- What the field-lists and the frames of an encoder represent.
-use Rattle.std.proofs.Common.{◌≡◌, ℕ, ◌+◌, Bool, true, false, cond, List, [], ◌∷◌, ◌++◌, length, take, drop, replicate, reverse, Option, Some, None, refl, ap, subst, sym, ◌∙◌, arith, append_assoc, length-append}
-use Rattle.std.proofs.lemmas.List.{reverse-append, take_at, drop_at, length-replicate}
+use Rattle.std.proofs.Common.{◌≡◌, ℕ, ◌+◌, Bool, true, false, cond, List, [], ◌∷◌, ◌++◌, length, take, drop, replicate}
+use Rattle.std.proofs.Common.{Option, Some, None, refl, ap, subst, sym, ◌∙◌, arith, append_assoc, length-append}
+use Rattle.std.proofs.lemmas.List.{take_at, drop_at, length-replicate}
 use Rattle.per_codec_packing.specs.FieldLists.{FieldList, bit, as_field_list, moved}
 use Rattle.per_codec_packing.proofs.Formed.{length-field_list, as_field_list-append}
 use Rattle.per_codec_packing.specs.Packed.{Packed, place, plus, solid}
@@ -26,7 +27,8 @@ length-preamble false ms = omega (arith, length-field_list ms)
 
 -- ---- what is shown is what they represent
 
-same_open : (e : Bool) (due : ℕ) (i j : FieldList) (m n : List Bool) (t u : State) → i ≡ j → m ≡ n → t ≡ u → (let l : State = (i, components e due m t.0 ∷ t.1) in l) ≡ (j, components e due n u.0 ∷ u.1)
+same_open : (e : Bool) (due : ℕ) (i j : FieldList) (m n : List Bool) (t u : State) → i ≡ j → m ≡ n → t ≡ u →
+    (let l : State = (i, components e due m t.0 ∷ t.1) in l) ≡ (j, components e due n u.0 ∷ u.1)
 same_open e due i j m n t u a b c =
     ap (λ x. let l : State = (x, components e due m t.0 ∷ t.1) in l) a
     ∙ (ap (λ x. let l : State = (j, components e due x t.0 ∷ t.1) in l) b ∙ ap (λ (x : State). let l : State = (j, components e due n x.0 ∷ x.1) in l) c)
@@ -42,7 +44,8 @@ module _ (below : Packed → State → Type 0) (e : Bool) (due given : ℕ) (sta
   length-front = omega (arith, length-append h.front whole, length-preamble e (h.presence_bits ++ zeros), length-append h.presence_bits zeros, length-replicate due false, h.starts, h.told)
 
   inner_shown : drop (at start + (extension_bit_width e + (given + due))) o.field_list ≡ h.inner
-  inner_shown = ap (drop (at start + (extension_bit_width e + (given + due)))) (h.field_list ∙ sym (append_assoc h.front whole h.inner)) ∙ drop_at (h.front ++ whole) h.inner (at start + (extension_bit_width e + (given + due))) length-front
+  inner_shown = ap (drop (at start + (extension_bit_width e + (given + due)))) (h.field_list ∙ sym (append_assoc h.front whole h.inner)) ∙
+      drop_at (h.front ++ whole) h.inner (at start + (extension_bit_width e + (given + due))) length-front
 
   front_shown : take (at start) o.field_list ≡ h.front
   front_shown = ap (take (at start)) h.field_list ∙ take_at h.front (whole ++ h.inner) (at start) h.starts
@@ -57,14 +60,18 @@ module _ (below : Packed → State → Type 0) (e : Bool) (due given : ℕ) (sta
 
   presence_shown : solid (take given (drop (at start + extension_bit_width e) o.field_list)) ≡ h.presence_bits
   presence_shown =
-      let n : length (h.front ++ as_field_list (preamble e [])) ≡ at start + extension_bit_width e = omega (arith, length-append h.front (as_field_list (preamble e [])), length-preamble e [], h.starts) in
+      let n : length (h.front ++ as_field_list (preamble e [])) ≡ at start + extension_bit_width e =
+      omega (arith, length-append h.front (as_field_list (preamble e [])), length-preamble e [], h.starts) in
       let m : length (as_field_list h.presence_bits) ≡ given = length-field_list h.presence_bits ∙ h.told in
-      ap solid (ap (take given) (ap (drop (at start + extension_bit_width e)) apart ∙ drop_at (h.front ++ as_field_list (preamble e [])) (as_field_list h.presence_bits ++ (as_field_list zeros ++ h.inner)) (at start + extension_bit_width e) n) ∙ take_at (as_field_list h.presence_bits) (as_field_list zeros ++ h.inner) given m) ∙ solid-bits h.presence_bits
+      ap solid (ap (take given) (ap (drop (at start + extension_bit_width e)) apart ∙
+      drop_at (h.front ++ as_field_list (preamble e [])) (as_field_list h.presence_bits ++ (as_field_list zeros ++ h.inner))
+      (at start + extension_bit_width e) n) ∙ take_at (as_field_list h.presence_bits) (as_field_list zeros ++ h.inner) given m) ∙ solid-bits h.presence_bits
 
   pub length-open : length o.field_list ≡ at start + (extension_bit_width e + (given + due)) + length h.inner
   length-open = omega (arith, ap length (h.field_list ∙ sym (append_assoc h.front whole h.inner)), length-append (h.front ++ whole) h.inner, length-front)
 
-same_added : (due : ℕ) (slots : List (Option (List Bool))) (i j : FieldList) (m n : List Bool) (r q : FieldList) (t u : State) → i ≡ j → m ≡ n → r ≡ q → t ≡ u → (let l : State = (i, added due m r slots t.0 ∷ t.1) in l) ≡ (j, added due n q slots u.0 ∷ u.1)
+same_added : (due : ℕ) (slots : List (Option (List Bool))) (i j : FieldList) (m n : List Bool) (r q : FieldList) (t u : State) → i ≡ j → m ≡ n →
+    r ≡ q → t ≡ u → (let l : State = (i, added due m r slots t.0 ∷ t.1) in l) ≡ (j, added due n q slots u.0 ∷ u.1)
 same_added due slots i j m n r q t u a b c d =
     ap (λ x. let l : State = (x, added due m r slots t.0 ∷ t.1) in l) a
     ∙ (ap (λ x. let l : State = (j, added due x r slots t.0 ∷ t.1) in l) b
@@ -76,7 +83,16 @@ module _ (below : Packed → State → Type 0) (due given : ℕ) (start end : Po
   head = h.front ++ (as_field_list (preamble true h.presence_bits) ++ h.root)
 
   pub length-head : length head ≡ at end
-  length-head = omega (arith, length-append h.front (as_field_list (preamble true h.presence_bits) ++ h.root), length-append (as_field_list (preamble true h.presence_bits)) h.root, length-preamble true h.presence_bits, h.starts, h.told, h.ends)
+  length-head = omega (
+    arith,
+    length-append h.front (as_field_list (preamble true h.presence_bits) ++ h.root),
+    length-append
+        (as_field_list (preamble true h.presence_bits)) h.root,
+    length-preamble true h.presence_bits,
+    h.starts,
+    h.told,
+    h.ends,
+  )
 
   in_two : o.field_list ≡ head ++ h.inner
   in_two =
@@ -97,13 +113,17 @@ module _ (below : Packed → State → Type 0) (due given : ℕ) (start end : Po
   given_shown =
       let n : length (h.front ++ bit false ∷ []) ≡ at start + 1 = omega (arith, length-append h.front (bit false ∷ []), h.starts) in
       let m : length (as_field_list h.presence_bits) ≡ given = length-field_list h.presence_bits ∙ h.told in
-      let apart : o.field_list ≡ (h.front ++ bit false ∷ []) ++ (as_field_list h.presence_bits ++ (h.root ++ h.inner)) = h.field_list ∙ sym (append_assoc h.front (bit false ∷ []) (as_field_list h.presence_bits ++ (h.root ++ h.inner))) in
-      ap solid (ap (take given) (ap (drop (at start + 1)) apart ∙ drop_at (h.front ++ bit false ∷ []) (as_field_list h.presence_bits ++ (h.root ++ h.inner)) (at start + 1) n) ∙ take_at (as_field_list h.presence_bits) (h.root ++ h.inner) given m) ∙ solid-bits h.presence_bits
+      let apart : o.field_list ≡ (h.front ++ bit false ∷ []) ++ (as_field_list h.presence_bits ++ (h.root ++ h.inner)) = h.field_list ∙
+      sym (append_assoc h.front (bit false ∷ []) (as_field_list h.presence_bits ++ (h.root ++ h.inner))) in
+      ap solid (ap (take given) (ap (drop (at start + 1)) apart ∙ drop_at (h.front ++ bit false ∷ [])
+      (as_field_list h.presence_bits ++ (h.root ++ h.inner)) (at start + 1) n) ∙ take_at (as_field_list h.presence_bits) (h.root ++ h.inner) given m) ∙ solid-bits h.presence_bits
 
   root_shown : drop (at start + (1 + given)) (take (at end) o.field_list) ≡ h.root
   root_shown =
-      let n : length (h.front ++ as_field_list (preamble true h.presence_bits)) ≡ at start + (1 + given) = omega (arith, length-append h.front (as_field_list (preamble true h.presence_bits)), length-preamble true h.presence_bits, h.starts, h.told) in
-      ap (drop (at start + (1 + given))) (head_shown ∙ sym (append_assoc h.front (as_field_list (preamble true h.presence_bits)) h.root)) ∙ drop_at (h.front ++ as_field_list (preamble true h.presence_bits)) h.root (at start + (1 + given)) n
+      let n : length (h.front ++ as_field_list (preamble true h.presence_bits)) ≡ at start + (1 + given) =
+      omega (arith, length-append h.front (as_field_list (preamble true h.presence_bits)), length-preamble true h.presence_bits, h.starts, h.told) in
+      ap (drop (at start + (1 + given))) (head_shown ∙ sym (append_assoc h.front (as_field_list (preamble true h.presence_bits)) h.root)) ∙
+      drop_at (h.front ++ as_field_list (preamble true h.presence_bits)) h.root (at start + (1 + given)) n
 
   pub length-added : length o.field_list ≡ at end + length h.inner
   length-added = omega (arith, ap length in_two, length-append head h.inner, length-head)
@@ -115,7 +135,8 @@ shown_is (Components e due given start ∷ fs) o s h =
     (ap (λ t. shown fs (instead t o)) (front_shown _ e due given start o s h) ∙ shown_is fs (instead h.front o) h.outer h.under)
     ∙ sym h.is
 shown_is (Added a ∷ fs) o s h =
-    same_added a.due a.slots _ h.inner _ h.presence_bits _ h.root _ h.outer (behind_shown _ a.due a.given a.start a.end a.slots o s h) (given_shown _ a.due a.given a.start a.end a.slots o s h) (root_shown _ a.due a.given a.start a.end a.slots o s h)
+    same_added a.due a.slots _ h.inner _ h.presence_bits _ h.root _ h.outer (behind_shown _ a.due a.given a.start a.end a.slots o s h)
+    (given_shown _ a.due a.given a.start a.end a.slots o s h) (root_shown _ a.due a.given a.start a.end a.slots o s h)
     (ap (λ t. shown fs (instead t o)) (before_shown _ a.due a.given a.start a.end a.slots o s h) ∙ shown_is fs (instead h.front o) h.outer h.under)
     ∙ sym h.is
 shown_is (OpenType front ∷ fs) o s h = ap (λ (t : State). let l : State = (o.field_list, open_type t.0 ∷ t.1) in l) (shown_is fs front h.0 h.3) ∙ sym h.1
@@ -144,11 +165,13 @@ at_end [] o s h = ap position h.1 ∙ first_at_end o h.0
 at_end (Components e due given start ∷ fs) o s h =
     let m : length h.outer.0 + (extension_bit_width e + length h.presence_bits + due) ≡ length h.outer.0 + (extension_bit_width e + length h.presence_bits + due) = refl in
     ap position h.is
-    ∙ moved_on (offset h.outer.1) o.placed (length h.outer.0) (length h.front) (extension_bit_width e + length h.presence_bits + due) (length h.inner) (length o.field_list) (at_end fs (instead h.front o) h.outer h.under)
+    ∙ moved_on (offset h.outer.1) o.placed (length h.outer.0) (length h.front) (extension_bit_width e + length h.presence_bits + due) (length h.inner)
+    (length o.field_list) (at_end fs (instead h.front o) h.outer h.under)
     (omega (arith, h.starts, h.told, length-open _ e due given start o s h))
 at_end (Added a ∷ fs) o s h =
     ap position h.is
-    ∙ moved_on (offset h.outer.1) o.placed (length h.outer.0) (length h.front) (1 + length h.presence_bits + length h.root) (length h.inner) (length o.field_list) (at_end fs (instead h.front o) h.outer h.under)
+    ∙ moved_on (offset h.outer.1) o.placed (length h.outer.0) (length h.front) (1 + length h.presence_bits + length h.root) (length h.inner)
+    (length o.field_list) (at_end fs (instead h.front o) h.outer h.under)
     (omega (arith, h.starts, h.told, h.ends, length-added _ a.due a.given a.start a.end a.slots o s h))
 at_end (OpenType front ∷ fs) o s h = ap position h.1 ∙ first_at_end o h.2
 at_end (Bag b ∷ fs) o s h = ap position h.1 ∙ ap (λ b. cond b (Some (length o.field_list)) None) (sym h.2)
@@ -164,7 +187,9 @@ appended (Components e due given start ∷ fs) o s w h = record {
   inner = h.inner ++ w;
   presence_bits = h.presence_bits;
   outer = h.outer;
-  field_list = ap (λ l. l ++ w) h.field_list ∙ (append_assoc h.front (as_field_list (preamble e (h.presence_bits ++ replicate due false)) ++ h.inner) w ∙ ap (λ l. h.front ++ l) (append_assoc (as_field_list (preamble e (h.presence_bits ++ replicate due false))) h.inner w));
+  field_list = ap (λ l. l ++ w) h.field_list ∙
+      (append_assoc h.front (as_field_list (preamble e (h.presence_bits ++ replicate due false)) ++ h.inner) w ∙
+      ap (λ l. h.front ++ l) (append_assoc (as_field_list (preamble e (h.presence_bits ++ replicate due false))) h.inner w));
   bits = h.bits;
   starts = h.starts;
   told = h.told;
@@ -178,7 +203,9 @@ appended (Added a ∷ fs) o s w h = record {
   root = h.root;
   inner = h.inner ++ w;
   outer = h.outer;
-  field_list = ap (λ l. l ++ w) h.field_list ∙ (append_assoc h.front (as_field_list (preamble true h.presence_bits) ++ (h.root ++ h.inner)) w ∙ ap (λ l. h.front ++ l) (append_assoc (as_field_list (preamble true h.presence_bits)) (h.root ++ h.inner) w ∙ ap (λ l. as_field_list (preamble true h.presence_bits) ++ l) (append_assoc h.root h.inner w)));
+  field_list = ap (λ l. l ++ w) h.field_list ∙ (append_assoc h.front (as_field_list (preamble true h.presence_bits) ++ (h.root ++ h.inner)) w ∙
+      ap (λ l. h.front ++ l) (append_assoc (as_field_list (preamble true h.presence_bits)) (h.root ++ h.inner) w ∙
+      ap (λ l. as_field_list (preamble true h.presence_bits) ++ l) (append_assoc h.root h.inner w)));
   bits = h.bits;
   starts = h.starts;
   told = h.told;
@@ -192,16 +219,13 @@ appended (Bag b ∷ fs) o s w h = (h.0, ap (λ (t : State). let l : State = (t.0
 appended (Alternative ∷ fs) o s w h = ((h.0.0 ++ w, h.0.1), ap (λ (t : State). let l : State = (t.0 ++ w, t.1) in l) h.1, appended fs o h.0 w h.2)
 appended (Members d ∷ fs) o s w h = ((h.0.0 ++ w, h.0.1), ap (λ (t : State). let l : State = (t.0 ++ w, t.1) in l) h.1, appended fs o h.0 w h.2)
 
--- ---- the innermost frame is the last
+-- ---- the innermost frame comes first
 
-turned : (fs gs : List Frame) (f : Frame) → gs ≡ fs ++ f ∷ [] → reverse gs ≡ f ∷ reverse fs
-turned fs gs f e = ap reverse e ∙ reverse-append fs (f ∷ [])
+pub on_top : (fs rest : List Frame) (f g : Frame) (o : Packed) (s : State) → fs ≡ f ∷ rest → f ≡ g → Holds fs o s → Holds (g ∷ rest) o s
+on_top fs rest f g o s a b h = subst (λ x. Holds (x ∷ rest) o s) b (subst (λ l. Holds l o s) a h)
 
-pub on_top : (fs rest : List Frame) (f g : Frame) (o : Packed) (s : State) → fs ≡ rest ++ f ∷ [] → f ≡ g → Holds (reverse fs) o s → Holds (g ∷ reverse rest) o s
-on_top fs rest f g o s a b h = subst (λ x. Holds (x ∷ reverse rest) o s) b (subst (λ l. Holds l o s) (turned rest fs f a) h)
-
-pub put_back : (rest gs : List Frame) (g : Frame) (o : Packed) (s : State) → gs ≡ rest ++ g ∷ [] → Holds (g ∷ reverse rest) o s → Holds (reverse gs) o s
-put_back rest gs g o s a h = subst (λ l. Holds l o s) (sym (turned rest gs g a)) h
+pub put_back : (rest gs : List Frame) (g : Frame) (o : Packed) (s : State) → gs ≡ g ∷ rest → Holds (g ∷ rest) o s → Holds gs o s
+put_back rest gs g o s a h = subst (λ l. Holds l o s) (sym a) h
 
 -- ---- if nothing is open, the field-list is that of the message
 

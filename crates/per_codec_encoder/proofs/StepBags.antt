@@ -1,5 +1,7 @@
 -- Bags: each element's field-list is kept until the end, which puts them in the order of their complete encodings.
-use Rattle.std.proofs.Common.{◌≡◌, ℕ, zero, suc, ◌*◌, leb, Bool, true, false, cond, ◌&&◌, List, [], ◌∷◌, ◌++◌, length, map, take, drop, Option, Some, None, option_map, option_and_then, refl, ap, sym, ◌∙◌, append_assoc}
+use Rattle.std.proofs.Common.{◌≡◌, ℕ, zero, suc, ◌*◌, leb, Bool, true, false, cond, ◌&&◌, List, [], ◌∷◌, ◌++◌, length}
+use Rattle.std.proofs.Common.{map, take, drop, Option, Some, None, option_map, option_and_then, refl, ap, sym, ◌∙◌}
+use Rattle.std.proofs.Common.{append_assoc}
 use Rattle.std.proofs.lemmas.List.{append-nil}
 use Rattle.asn1_model.specs.Value.{Value, bag, Values, no_more, member, each}
 use Rattle.asn1_model.specs.Schema.{Counts, Size, Schema, set_of}
@@ -34,7 +36,8 @@ module _ (al : Bool) (z : Size) (held : Counts) (s : Schema) (h : (v : Value) �
   abbrev closing : List FieldList → Option State
   closing ts = option_and_then (λ m. runs al rest m) (closed_bag al z held zero ts front k)
 
-  field_list_by_field_list : (ts : List FieldList) (o : Option (List FieldList)) (c : Option FieldList) → option_and_then (λ a. option_and_then (λ us. closing ((ts ++ a ∷ []) ++ us)) o) c ≡ option_and_then (λ us. closing (ts ++ us)) (option_and_then (λ a. option_map (λ us. a ∷ us) o) c)
+  field_list_by_field_list : (ts : List FieldList) (o : Option (List FieldList)) (c : Option FieldList) →
+      option_and_then (λ a. option_and_then (λ us. closing ((ts ++ a ∷ []) ++ us)) o) c ≡ option_and_then (λ us. closing (ts ++ us)) (option_and_then (λ a. option_map (λ us. a ∷ us) o) c)
   field_list_by_field_list ts o None = refl
   field_list_by_field_list ts o (Some a) = go o
     where
@@ -42,12 +45,15 @@ module _ (al : Bool) (z : Size) (held : Counts) (s : Schema) (h : (v : Value) �
       go None = refl
       go (Some us) = ap closing (append_assoc ts (a ∷ []) us)
 
-  members_kept : (vs : Values) (ts : Option (List FieldList)) (one : FieldList) → runs al (member_records (λ v. presents s v) vs ++ rest) (one, bag_members z held (member_count vs) ts front ∷ k) ≡ option_and_then (λ us. closing (with_open ts one ++ us)) (all_field_lists (forms vs))
+  members_kept : (vs : Values) (ts : Option (List FieldList)) (one : FieldList) →
+      runs al (member_records (λ v. presents s v) vs ++ rest) (one, bag_members z held (member_count vs) ts front ∷ k)
+      ≡ option_and_then (λ us. closing (with_open ts one ++ us)) (all_field_lists (forms vs))
   members_kept no_more ts one = ap closing (sym (append-nil (with_open ts one)))
   members_kept (member v vs) ts one =
       ap (λ l. runs al l ([], bag_members z held (member_count vs) (Some (with_open ts one)) front ∷ k)) (append_assoc (presents s v) (member_records (λ v. presents s v) vs) rest)
       ∙ h v [] (bag_members z held (member_count vs) (Some (with_open ts one)) front ∷ k) (member_records (λ v. presents s v) vs ++ rest)
-      ∙ chain_same (field_list_at (Per.form al s v) None) _ (λ a. option_and_then (λ us. closing ((with_open ts one ++ a ∷ []) ++ us)) (all_field_lists (forms vs))) (λ a. members_kept vs (Some (with_open ts one)) a)
+      ∙ chain_same (field_list_at (Per.form al s v) None) _ (λ a. option_and_then (λ us. closing ((with_open ts one ++ a ∷ []) ++ us))
+      (all_field_lists (forms vs))) (λ a. members_kept vs (Some (with_open ts one)) a)
       ∙ field_list_by_field_list (with_open ts one) (all_field_lists (forms vs)) (field_list_at (Per.form al s v) None)
 
 -- ---- order
@@ -61,7 +67,8 @@ module _ {K X Y : Type 0} (f : X → Y) (key : Y → Option K) (own : X → Opti
   put-map e [] = refl
   put-map e (d ∷ es) = go (before d.0 e.0) (put-map e es)
     where
-      go : (t : Bool) → put_in_place before (with_key e) (map with_key es) ≡ map with_key (put_in_place before e es) → cond t (with_key d ∷ put_in_place before (with_key e) (map with_key es)) (with_key e ∷ with_key d ∷ map with_key es) ≡ map with_key (cond t (d ∷ put_in_place before e es) (e ∷ d ∷ es))
+      go : (t : Bool) → put_in_place before (with_key e) (map with_key es) ≡ map with_key (put_in_place before e es) →
+          cond t (with_key d ∷ put_in_place before (with_key e) (map with_key es)) (with_key e ∷ with_key d ∷ map with_key es) ≡ map with_key (cond t (d ∷ put_in_place before e es) (e ∷ d ∷ es))
       go true i = ap (λ l. with_key d ∷ l) i
       go false i = refl
 
@@ -69,11 +76,14 @@ module _ {K X Y : Type 0} (f : X → Y) (key : Y → Option K) (own : X → Opti
   keys-map [] = refl
   keys-map (x ∷ xs) = ap (option_and_then (λ k. option_map (λ es. put_in_place before (k, f x) es) (with_keys key before (map f xs)))) (same x) ∙ go (own x) (keys-map xs)
     where
-      inner : (k : K) (o : Option (List (K × X))) → option_map (λ es. put_in_place before (k, f x) es) (option_map (map with_key) o) ≡ option_map (map with_key) (option_map (λ es. put_in_place before (k, x) es) o)
+      inner : (k : K) (o : Option (List (K × X))) → option_map (λ es. put_in_place before (k, f x) es) (option_map (map with_key) o)
+          ≡ option_map (map with_key) (option_map (λ es. put_in_place before (k, x) es) o)
       inner k None = refl
       inner k (Some es) = ap Some (put-map (k, x) es)
 
-      go : (o : Option K) → with_keys key before (map f xs) ≡ option_map (map with_key) (with_keys own before xs) → option_and_then (λ k. option_map (λ es. put_in_place before (k, f x) es) (with_keys key before (map f xs))) o ≡ option_map (map with_key) (option_and_then (λ k. option_map (λ es. put_in_place before (k, x) es) (with_keys own before xs)) o)
+      go : (o : Option K) → with_keys key before (map f xs) ≡ option_map (map with_key) (with_keys own before xs) →
+          option_and_then (λ k. option_map (λ es. put_in_place before (k, f x) es) (with_keys key before (map f xs))) o
+          ≡ option_map (map with_key) (option_and_then (λ k. option_map (λ es. put_in_place before (k, x) es) (with_keys own before xs)) o)
       go None i = refl
       go (Some k) i = ap (option_map (λ es. put_in_place before (k, f x) es)) i ∙ inner k (with_keys own before xs)
 
@@ -159,7 +169,8 @@ found : (xs : List Per.BitForm) → AllPaddingAlone xs → Found xs (all_field_l
 found [] h = ([], refl, refl)
 found (x ∷ xs) h = go (field_list_at x None) refl (all_field_lists xs) (found xs h.1)
   where
-    none_first : (o : Option (List Bool)) → with_keys complete_bits (stands_before Per.bit_less) xs ≡ None → option_and_then (λ k. option_map (λ es. put_in_place (stands_before Per.bit_less) (k, x) es) (with_keys complete_bits (stands_before Per.bit_less) xs)) o ≡ None
+    none_first : (o : Option (List Bool)) → with_keys complete_bits (stands_before Per.bit_less) xs ≡ None →
+        option_and_then (λ k. option_map (λ es. put_in_place (stands_before Per.bit_less) (k, x) es) (with_keys complete_bits (stands_before Per.bit_less) xs)) o ≡ None
     none_first None i = refl
     none_first (Some k) i = ap (option_map (λ es. put_in_place (stands_before Per.bit_less) (k, x) es)) i
 
@@ -184,7 +195,8 @@ unfolding field_list_at
 joined_same [] q = refl
 joined_same (y ∷ ys) q =
     ap (option_and_then (λ a. option_map (λ b. a ++ b) (field_list_at (joined (retold ys)) (on q a)))) (y.same q)
-    ∙ chain_same (field_list_at y.form q) (λ a. option_map (λ b. a ++ b) (field_list_at (joined (retold ys)) (on q a))) (λ a. option_map (λ b. a ++ b) (field_list_at (joined (forms_of ys)) (on q a))) (λ a. ap (option_map (λ b. a ++ b)) (joined_same ys (on q a)))
+    ∙ chain_same (field_list_at y.form q) (λ a. option_map (λ b. a ++ b) (field_list_at (joined (retold ys)) (on q a)))
+    (λ a. option_map (λ b. a ++ b) (field_list_at (joined (forms_of ys)) (on q a))) (λ a. ap (option_map (λ b. a ++ b)) (joined_same ys (on q a)))
 
 take-map : {X Y : Type 0} (f : X → Y) (n : ℕ) (xs : List X) → take n (map f xs) ≡ map f (take n xs)
 take-map f zero xs = refl
@@ -200,9 +212,12 @@ same_count : (ys : List Told) → length (retold ys) ≡ length (forms_of ys)
 same_count [] = refl
 same_count (y ∷ ys) = ap suc (same_count ys)
 
-both_same : (x x' y y' : Per.BitForm) → ((q : Option ℕ) → field_list_at x q ≡ field_list_at x' q) → ((q : Option ℕ) → field_list_at y q ≡ field_list_at y' q) → (q : Option ℕ) → field_list_at (both x y) q ≡ field_list_at (both x' y') q
+both_same : (x x' y y' : Per.BitForm) → ((q : Option ℕ) → field_list_at x q ≡ field_list_at x' q) →
+    ((q : Option ℕ) → field_list_at y q ≡ field_list_at y' q) → (q : Option ℕ) → field_list_at (both x y) q ≡ field_list_at (both x' y') q
 unfolding field_list_at
-both_same x x' y y' h k q = ap (option_and_then (λ a. option_map (λ b. a ++ b) (field_list_at y (on q a)))) (h q) ∙ chain_same (field_list_at x' q) (λ a. option_map (λ b. a ++ b) (field_list_at y (on q a))) (λ a. option_map (λ b. a ++ b) (field_list_at y' (on q a))) (λ a. ap (option_map (λ b. a ++ b)) (k (on q a)))
+both_same x x' y y' h k q = ap (option_and_then (λ a. option_map (λ b. a ++ b) (field_list_at y (on q a)))) (h q) ∙
+    chain_same (field_list_at x' q) (λ a. option_map (λ b. a ++ b) (field_list_at y (on q a)))
+    (λ a. option_map (λ b. a ++ b) (field_list_at y' (on q a))) (λ a. ap (option_map (λ b. a ++ b)) (k (on q a)))
 
 -- a part of them
 taken_same : (n : ℕ) (ys : List Told) (q : Option ℕ) → field_list_at (joined (take n (retold ys))) q ≡ field_list_at (joined (take n (forms_of ys))) q
@@ -213,9 +228,11 @@ taken_same n ys q =
 
 fragments_same : (al : Bool) (ms : List ℕ) (ys : List Told) (q : Option ℕ) → field_list_at (Per.fragments al ms (retold ys)) q ≡ field_list_at (Per.fragments al ms (forms_of ys)) q
 unfolding Per.fragments field_list_at
-fragments_same al [] ys q = ap (λ n. field_list_at (both (Per.short_length al n) (joined (retold ys))) q) (same_count ys) ∙ both_same (Per.short_length al (length (forms_of ys))) (Per.short_length al (length (forms_of ys))) (joined (retold ys)) (joined (forms_of ys)) (λ p. refl) (joined_same ys) q
+fragments_same al [] ys q = ap (λ n. field_list_at (both (Per.short_length al n) (joined (retold ys))) q) (same_count ys) ∙
+    both_same (Per.short_length al (length (forms_of ys))) (Per.short_length al (length (forms_of ys))) (joined (retold ys)) (joined (forms_of ys)) (λ p. refl) (joined_same ys) q
 fragments_same al (m ∷ ms) ys q =
-    ap (λ n. field_list_at (only_if (leb 1 m && leb m 4 && leb (m * 16384) n) (both determinant (both (joined (take (m * 16384) (retold ys))) (Per.fragments al ms (drop (m * 16384) (retold ys)))))) q) (same_count ys)
+    ap (λ n. field_list_at (only_if (leb 1 m && leb m 4 && leb (m * 16384) n)
+    (both determinant (both (joined (take (m * 16384) (retold ys))) (Per.fragments al ms (drop (m * 16384) (retold ys)))))) q) (same_count ys)
     ∙ by_test (leb 1 m && leb m 4 && leb (m * 16384) (length (forms_of ys))) (λ p. fragments_same al ms (drop (m * 16384) ys) p)
   where
     determinant : Per.BitForm
@@ -224,16 +241,28 @@ fragments_same al (m ∷ ms) ys q =
     behind : List Per.BitForm → Per.BitForm
     behind us = both (joined (take (m * 16384) us)) (Per.fragments al ms (drop (m * 16384) us))
 
-    left_same : ((p : Option ℕ) → field_list_at (Per.fragments al ms (retold (drop (m * 16384) ys))) p ≡ field_list_at (Per.fragments al ms (forms_of (drop (m * 16384) ys))) p) → (p : Option ℕ) → field_list_at (Per.fragments al ms (drop (m * 16384) (retold ys))) p ≡ field_list_at (Per.fragments al ms (drop (m * 16384) (forms_of ys))) p
-    left_same h p = ap (λ l. field_list_at (Per.fragments al ms l) p) (drop-map (λ (y : Told). as_form y.field_list) (m * 16384) ys) ∙ h p ∙ ap (λ l. field_list_at (Per.fragments al ms l) p) (sym (drop-map (λ (y : Told). y.form) (m * 16384) ys))
+    left_same : ((p : Option ℕ) → field_list_at (Per.fragments al ms (retold (drop (m * 16384) ys))) p
+        ≡ field_list_at (Per.fragments al ms (forms_of (drop (m * 16384) ys))) p) → (p : Option ℕ) →
+        field_list_at (Per.fragments al ms (drop (m * 16384) (retold ys))) p ≡ field_list_at (Per.fragments al ms (drop (m * 16384) (forms_of ys))) p
+    left_same h p = ap (λ l. field_list_at (Per.fragments al ms l) p) (drop-map (λ (y : Told). as_form y.field_list) (m * 16384) ys) ∙ h p ∙
+        ap (λ l. field_list_at (Per.fragments al ms l) p) (sym (drop-map (λ (y : Told). y.form) (m * 16384) ys))
 
-    by_test : (t : Bool) → ((p : Option ℕ) → field_list_at (Per.fragments al ms (retold (drop (m * 16384) ys))) p ≡ field_list_at (Per.fragments al ms (forms_of (drop (m * 16384) ys))) p) → field_list_at (only_if t (both determinant (both (joined (take (m * 16384) (retold ys))) (Per.fragments al ms (drop (m * 16384) (retold ys)))))) q ≡ field_list_at (only_if t (both determinant (both (joined (take (m * 16384) (forms_of ys))) (Per.fragments al ms (drop (m * 16384) (forms_of ys)))))) q
+    by_test : (t : Bool) → ((p : Option ℕ) → field_list_at (Per.fragments al ms (retold (drop (m * 16384) ys))) p
+        ≡ field_list_at (Per.fragments al ms (forms_of (drop (m * 16384) ys))) p) →
+        field_list_at (only_if t (both determinant
+        (both (joined (take (m * 16384) (retold ys))) (Per.fragments al ms (drop (m * 16384) (retold ys)))))) q
+        ≡ field_list_at (only_if t (both determinant (both (joined (take (m * 16384) (forms_of ys))) (Per.fragments al ms (drop (m * 16384) (forms_of ys)))))) q
     by_test false h = refl
-    by_test true h = both_same determinant determinant (behind (retold ys)) (behind (forms_of ys)) (λ p. refl) (both_same (joined (take (m * 16384) (retold ys))) (joined (take (m * 16384) (forms_of ys))) (Per.fragments al ms (drop (m * 16384) (retold ys))) (Per.fragments al ms (drop (m * 16384) (forms_of ys))) (taken_same (m * 16384) ys) (left_same h)) q
+    by_test true h = both_same determinant determinant (behind (retold ys)) (behind (forms_of ys)) (λ p. refl)
+        (both_same (joined (take (m * 16384) (retold ys))) (joined (take (m * 16384) (forms_of ys)))
+        (Per.fragments al ms (drop (m * 16384) (retold ys))) (Per.fragments al ms (drop (m * 16384) (forms_of ys))) (taken_same (m * 16384) ys) (left_same h)) q
 
 due_same : (al : Bool) (n : ℕ) (hs : LengthDeterminants) (ys : List Told) (q : Option ℕ) → field_list_at (form_due al n hs (retold ys)) q ≡ field_list_at (form_due al n hs (forms_of ys)) q
 due_same al n None ys q = joined_same ys q
-due_same al n (Some h) ys q = both_same (joined (take n (retold ys))) (joined (take n (forms_of ys))) (Per.fragments al h.0 (drop n (retold ys))) (Per.fragments al h.0 (drop n (forms_of ys))) (taken_same n ys) (λ p. ap (λ l. field_list_at (Per.fragments al h.0 l) p) (drop-map (λ (y : Told). as_form y.field_list) n ys) ∙ fragments_same al h.0 (drop n ys) p ∙ ap (λ l. field_list_at (Per.fragments al h.0 l) p) (sym (drop-map (λ (y : Told). y.form) n ys))) q
+due_same al n (Some h) ys q = both_same (joined (take n (retold ys))) (joined (take n (forms_of ys))) (Per.fragments al h.0 (drop n (retold ys)))
+    (Per.fragments al h.0 (drop n (forms_of ys))) (taken_same n ys)
+    (λ p. ap (λ l. field_list_at (Per.fragments al h.0 l) p) (drop-map (λ (y : Told). as_form y.field_list) n ys) ∙
+    fragments_same al h.0 (drop n ys) p ∙ ap (λ l. field_list_at (Per.fragments al h.0 l) p) (sym (drop-map (λ (y : Told). y.form) n ys))) q
 
 module _ (al : Bool) (z : Size) (held : Counts) (q : Option ℕ) where
   abbrev size : List Per.BitForm → Per.BitForm
@@ -268,7 +297,8 @@ module _ (al : Bool) (z : Size) (held : Counts) (q : Option ℕ) where
   by_field_lists : (xs : List Per.BitForm) (o : Option (List FieldList)) → Found xs o → option_and_then (λ ts. field_list_at (ordered (map as_form ts)) q) o ≡ field_list_at (ordered xs) q
   unfolding field_list_at Per.in_any_order
   by_field_lists xs None i = ap (λ o. field_list_at (given (option_map (map (λ e. e.1)) o) size) q) (sym i)
-  by_field_lists xs (Some ts) i = ap (λ l. field_list_at (ordered (map as_form l)) q) (sym i.2) ∙ ap (λ l. field_list_at (ordered l) q) (twice i.0) ∙ order_same i.0 ∙ ap (λ l. field_list_at (ordered l) q) i.1
+  by_field_lists xs (Some ts) i = ap (λ l. field_list_at (ordered (map as_form l)) q) (sym i.2) ∙ ap (λ l. field_list_at (ordered l) q) (twice i.0) ∙
+      order_same i.0 ∙ ap (λ l. field_list_at (ordered l) q) i.1
     where
       twice : (ys : List Told) → map as_form (field_lists_of ys) ≡ retold ys
       twice [] = refl
@@ -298,11 +328,14 @@ bags z held s b al (bag vs) os k rest = judged (list_heading al z held (member_c
     count : length us ≡ member_count vs
     count = length-each (λ v. Per.form al s v) vs
 
-    judged : (o : Option Heading) → list_heading al z held (member_count vs) q ≡ o → option_and_then (λ m. runs al (member_records (λ v. presents s v) vs ++ rest) m) (bag_opened z held (member_count vs) (os, k) o) ≡ option_and_then (λ w. runs al rest (os ++ w, k)) (field_list_at (ordered al z held q us) q)
+    judged : (o : Option Heading) → list_heading al z held (member_count vs) q ≡ o →
+        option_and_then (λ m. runs al (member_records (λ v. presents s v) vs ++ rest) m) (bag_opened z held (member_count vs) (os, k) o)
+        ≡ option_and_then (λ w. runs al rest (os ++ w, k)) (field_list_at (ordered al z held q us) q)
     judged None e = ap (option_and_then (λ w. runs al rest (os ++ w, k))) (sym (unsized al z held q us (ap (λ n. list_heading al z held n q) count ∙ e)))
     judged (Some g) e =
         members_kept al z held s (b al) os k rest vs None []
-        ∙ chain_same (all_field_lists us) _ (λ ts. option_and_then (λ w. runs al rest (os ++ w, k)) (field_list_at (ordered al z held q (map as_form ts)) q)) (λ ts. one_field_list al (field_list_at (ordered al z held q (map as_form ts)) q) os k rest)
+        ∙ chain_same (all_field_lists us) _ (λ ts. option_and_then (λ w. runs al rest (os ++ w, k))
+        (field_list_at (ordered al z held q (map as_form ts)) q)) (λ ts. one_field_list al (field_list_at (ordered al z held q (map as_form ts)) q) os k rest)
         ∙ sym (in_turn (all_field_lists us) (λ ts. field_list_at (ordered al z held q (map as_form ts)) q) (λ w. runs al rest (os ++ w, k)))
         ∙ ap (option_and_then (λ w. runs al rest (os ++ w, k))) (by_field_lists al z held q us (all_field_lists us) (found us (each_padding (λ v. Per.form al s v) (λ v. form_padding al s v) vs)))
 bags z held s b al v os k rest = refl

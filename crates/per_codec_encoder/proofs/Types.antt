@@ -1,6 +1,9 @@
 -- The bridge of every type.
 use Rattle.std.proofs.Common.{refl}
-use Rattle.asn1_model.specs.Schema.{Schema, cut, boolean, null, integer, enumerated, bit_string, octet_string, character_string, object_identifier, sequence_of, set_of, sequence, set, group, choice, Components, no_component, component, Alternatives, no_alternative, alternative}
+use Rattle.asn1_model.specs.Schema.{Schema, cut, boolean, null, integer, enumerated, bit_string, octet_string}
+use Rattle.asn1_model.specs.Schema.{character_string, object_identifier, sequence_of, set_of, sequence, set, group}
+use Rattle.asn1_model.specs.Schema.{choice, Components, no_component, component, Alternatives, no_alternative}
+use Rattle.asn1_model.specs.Schema.{alternative}
 use Rattle.asn1_model.specs.Per
 use Rattle.asn1_schema_laws.specs.Presents.{presents}
 use Rattle.per_codec_packing.specs.FieldLists.{field_list_at}

@@ -31,7 +31,8 @@ to_bits x w e = go (written x 0) refl (sym (known x 0) ∙ e)
     go None f g = cc
     go (Some l) f g = (l, f, let q : w ≡ as_field_list l = cc in q)
 
-chain_to_bits : (al : Bool) (s : Schema) (v : Value) (new : State) → normal s v ≡ v → Chain (Step al) (presents s v) ([], []) new → (l : List Bool) × (canonical_bits al s v ≡ Some l) × (new ≡ (as_field_list l, []))
+chain_to_bits : (al : Bool) (s : Schema) (v : Value) (new : State) → normal s v ≡ v → Chain (Step al) (presents s v) ([], []) new → (l : List Bool) ×
+    (canonical_bits al s v ≡ Some l) × (new ≡ (as_field_list l, []))
 chain_to_bits al s v new e c =
     let t = (added al s v [] [] new).0 c in
     let b = to_bits (Per.form al s v) t.0 t.1 in
@@ -101,7 +102,8 @@ by_variant false s v = (refl, refl)
 padded_octets : Option (List Bool) → Option (List ℕ)
 padded_octets o = option_map packed (option_and_then (λ w. written (Per.padded w) 0) o)
 
-canonically : (al : Bool) (schema : ℕ → Schema) (v : Value) (o : Option (List Bool)) → ((n : ℕ) → Fits (schema n) v → canonical_bits al (schema n) v ≡ o) → IsWrittenIn (packed_rules al) schema v (option_and_then of_moderate_length (padded_octets o))
+canonically : (al : Bool) (schema : ℕ → Schema) (v : Value) (o : Option (List Bool)) →
+    ((n : ℕ) → Fits (schema n) v → canonical_bits al (schema n) v ≡ o) → IsWrittenIn (packed_rules al) schema v (option_and_then of_moderate_length (padded_octets o))
 unfolding canonical per Per.message Per.complete written padded_octets
 canonically al schema v o h n f =
     let b = by_variant al (schema n) (normal (schema n) v) in
@@ -112,14 +114,20 @@ padded_field_list : (l : List Bool) → padded_octets (Some l) ≡ octets_of (as
 unfolding padded_octets
 padded_field_list l = ap (option_and_then (λ w. option_map packed (written (Per.padded w) 0))) (sym (plain_field_list l))
 
-pub writes_the_octets : {S : Type 0} {step : S → Record → S → Type 0} {aligned : S → Bool} {held : S → State} {Ready : S → Type 0} → IsWriter step aligned held Ready → WritesTheOctets step aligned held
+pub writes_the_octets : {S : Type 0} {step : S → Record → S → Type 0} {aligned : S → Bool} {held : S → State} {Ready : S → Type 0} →
+    IsWriter step aligned held Ready → WritesTheOctets step aligned held
 writes_the_octets {aligned} {held} h schema v old new i e w =
     let P : State → Type 0 = λ s. (n : ℕ) → Fits (schema n) v → Chain (Step (aligned old)) (presents (schema n) v) s (held new) in
     let t = (written_by_records (aligned old) schema v (held new) i).0 (record { chain = subst P e (λ n f. chain_held h (presents (schema n) v) old new (w.chain n f)) }) in
     let Q : Option (List ℕ) → Type 0 = λ o. IsWrittenIn (packed_rules (aligned old)) schema v (option_and_then of_moderate_length o) in
     (ap (λ (s : State). s.1) t.1, subst Q (padded_field_list t.0 ∙ ap octets_of (sym t.1)) (canonically (aligned old) schema v (Some t.0) t.2))
 
-pub refuses_only_none : {S : Type 0} {step : S → Record → S → Type 0} {aligned : S → Bool} {held : S → State} {Ready : S → Type 0} → IsWriter step aligned held Ready → RefusesOnlyNone step aligned held Ready
+pub refuses_only_none : {S : Type 0} {step : S → Record → S → Type 0} {aligned : S → Bool} {held : S → State} {Ready : S → Type 0} →
+    IsWriter step aligned held Ready → RefusesOnlyNone step aligned held Ready
 unfolding padded_octets
 refuses_only_none {aligned} h schema v old x i k e y c =
-    canonically (aligned old) schema v None ((refused_by_records (aligned old) schema v x i y).0 (record { none = λ z n new f t. let P : State → Type 0 = λ s. Chain (Step (aligned old)) (presents (schema n) v) s new in let u = chain_taken h (presents (schema n) v) old new k (subst P (sym e) t) in c.none z n u.0 f u.1 }))
+    canonically (aligned old) schema v None ((refused_by_records (aligned old) schema v x i y).0
+    (record {
+      none = λ z n new f t. let P : State → Type 0 = λ s. Chain (Step (aligned old)) (presents (schema n) v) s new in let u =
+          chain_taken h (presents (schema n) v) old new k (subst P (sym e) t) in c.none z n u.0 f u.1;
+    }))

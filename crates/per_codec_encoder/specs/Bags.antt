@@ -27,7 +27,8 @@ further_in more b os front k = counted_in (size_of b.sizes)
 
 -- A further element or the end comes next: the field-list and the bag are those after this step.
 pub record GoesOnInBag (more : Bool) (b : Bag) (o : Packed) (next : Bag) (p : Packed) : Type 0 where
-  pub goes : (front : FieldList) (k : List Scope) → further_in more b o.field_list front k ≡ Some (p.field_list, bag_of next front ∷ k)
+  pub goes : (front : FieldList) (k : List Scope) → further_in more b o.field_list front k
+      ≡ Some (p.field_list, bag_of next front ∷ k)
   pub outer : next.outer ≡ b.outer
   pub unplaced : o.placed ≡ false → p.placed ≡ false
 

@@ -18,7 +18,7 @@ is_written_at_end Alternative = false
 -- An open type, if there is one, is inside the others: the field-list before it is given.
 abbrev pub enclosed : Option Packed → List Frame → List Frame
 enclosed None fs = fs
-enclosed (Some o) fs = fs ++ OpenType o ∷ []
+enclosed (Some o) fs = OpenType o ∷ fs
 
 -- The additions after the next one: one fewer is due, and an absent one has its slot.
 pub record Next (here : Bool) (a b : Additions) : Type 0 where
@@ -42,15 +42,15 @@ pub record CountsAddition (here : Bool) (fs gs : List Frame) : Type 0 where
   pub around : List Frame
   pub old : Additions
   pub new : Additions
-  pub before : fs ≡ around ++ Added old ∷ []
+  pub before : fs ≡ Added old ∷ around
   pub next : Next here old new
-  pub after : gs ≡ around ++ Added new ∷ []
+  pub after : gs ≡ Added new ∷ around
 
 -- The bits of an addition of the innermost sequence are stored.
 pub record KeepsAddition (contents : List Bool) (fs gs : List Frame) : Type 0 where
   pub around : List Frame
   pub old : Additions
   pub new : Additions
-  pub before : fs ≡ around ++ Added old ∷ []
+  pub before : fs ≡ Added old ∷ around
   pub next : Keeps contents old new
-  pub after : gs ≡ around ++ Added new ∷ []
+  pub after : gs ≡ Added new ∷ around

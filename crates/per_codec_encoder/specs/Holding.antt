@@ -1,7 +1,7 @@
 -- How the field-lists and the frames of an encoder represent what a writer holds. The innermost frame comes first. The
 -- field-list is that of the innermost message, open type or element of a bag.
 use Rattle.std.specs.Prelude.{◌≡◌, ℕ, ◌+◌, ◌^◌, ◌<◌, Bool, true, false, List, [], ◌∷◌, ◌++◌, length, take, drop}
-use Rattle.std.specs.Prelude.{replicate, reverse, Option, Some, None}
+use Rattle.std.specs.Prelude.{replicate, Option, Some, None}
 use Rattle.asn1_schema_errors.specs.declared.EncodeError.{EncodeError}
 use Rattle.asn1_schema_errors.specs.declared.EncodeError.TheVariants.{OutOfMemory, AlreadyFailed}
 use Rattle.asn1_schema_laws.specs.Records.{Record}
@@ -91,25 +91,25 @@ abbrev pub Holds : List Frame → Packed → State → Type 0
 Holds [] o s = (o.placed ≡ true) × (s ≡ (o.field_list, []))
 Holds (Components e due given start ∷ fs) o s = IsOpen (λ p t. Holds fs p t) e due given start o s
 Holds (Added a ∷ fs) o s = IsAdded (λ p t. Holds fs p t) a.due a.given a.start a.end a.slots o s
-Holds (OpenType front ∷ fs) o s = (outer : State) × (s ≡ (o.field_list, open_type outer.0 ∷ outer.1)) × (o.placed ≡ true)
-    × Holds fs front outer
+Holds (OpenType front ∷ fs) o s = (outer : State) × (s ≡ (o.field_list, open_type outer.0 ∷ outer.1))
+    × (o.placed ≡ true) × Holds fs front outer
 Holds (Members d ∷ fs) o s = (outer : State) × (s ≡ (outer.0, members d.units (determinants_of d.behind) ∷ outer.1))
     × Holds fs o outer
 Holds (Bag b ∷ fs) o s = (outer : State) × (s ≡ (o.field_list, bag_of b.value outer.0 ∷ outer.1)) × (o.placed ≡ false)
     × Holds fs b.value.outer outer
 Holds (Alternative ∷ fs) o s = (outer : State) × (s ≡ (outer.0, alternative ∷ outer.1)) × Holds fs o outer
 
--- The field-list and the frames, the innermost last, represent some state.
+-- The field-list and the frames represent some state.
 pub record AreSound (fs : List Frame) (o : Packed) : Type 0 where
   pub state : State
-  pub holds : Holds (reverse fs) o state
+  pub holds : Holds fs o state
 
 -- What a record does to the field-list and the frames in a variant: it follows the step.
 pub record Does (al : Bool) (r : Record) (fs : List Frame) (o : Packed) (gs : List Frame) (p : Packed) : Type 0 where
-  pub after : (s : State) → Holds (reverse fs) o s → (t : State) × (run al r s ≡ Some t) × Holds (reverse gs) p t
+  pub after : (s : State) → Holds fs o s → (t : State) × (run al r s ≡ Some t) × Holds gs p t
 
 -- Why a record was refused: memory ran out, or there is no step.
 abbrev pub Cannot : Bool → Record → List Frame → Packed → EncodeError → Type 0
 Cannot al r fs o OutOfMemory = Unit {0}
 Cannot al r fs o AlreadyFailed = ⊥
-Cannot al r fs o e = (s : State) → Holds (reverse fs) o s → run al r s ≡ None
+Cannot al r fs o e = (s : State) → Holds fs o s → run al r s ≡ None

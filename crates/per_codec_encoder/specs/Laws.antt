@@ -1,4 +1,4 @@
--- The laws of the encoder.
+-- Laws of the steps of an encoder: one state at most follows a record, none after an error, and the variant stays.
 use Rattle.std.proofs.Common.{◌≡◌, Bool, true, false, Some, sym, ◌∙◌, ap}
 use Rattle.asn1_schema_laws.specs.Records.{Record}
 use Rattle.per_codec_encoder.specs.Steps.{State}

@@ -132,7 +132,8 @@ StateRows =
     × (run true (call.further false) (as_field_list (true ∷ []), members 0 (Some ([], 0)) ∷ []) ≡ Some
     (as_field_list (true ∷ replicate 15 false), members 0 None ∷ []))
     × (run false (call.further false) ([], members 1 None ∷ []) ≡ None)
-    × (run false (call.list_begins (sizes 1 2) any_count 2) ([], []) ≡ Some (as_field_list (true ∷ []), members 2 None ∷ []))
+    × (run false (call.list_begins (sizes 1 2) any_count 2) ([], []) ≡ Some
+    (as_field_list (true ∷ []), members 2 None ∷ []))
     × (run false (call.list_begins (sizes 1 2) any_count 3) ([], []) ≡ None)
     × (run false (call.list_begins (sizes_or_more 1 2) any_count 2) ([], []) ≡ Some
     (as_field_list (false ∷ true ∷ []), members 2 None ∷ []))

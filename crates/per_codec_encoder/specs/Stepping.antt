@@ -1,4 +1,4 @@
--- What an encoder holds, and how records change it.
+-- The state of an encoder: what a writer holds, its variant, whether a call has failed; and how a record changes it.
 use Rattle.std.specs.Prelude.{◌≡◌, Bool, true, false, Some}
 use Rattle.asn1_schema_errors.specs.declared.CodecKind.{CodecKind}
 use Rattle.asn1_schema_errors.specs.declared.CodecKind.TheVariants.{Uper, Aper}

@@ -111,7 +111,8 @@ abbrev pub bag_opened : Size → Counts → ℕ → State → Option Heading →
 bag_opened z h n s o = option_map (λ (g : Heading). ([], bag_members z h n None s.0 ∷ s.1)) o
 
 -- The elements of a bag are kept apart until the end, which puts them in order.
-abbrev pub counted_in : Size → Counts → ℕ → Option (List FieldList) → FieldList → FieldList → List Scope → Bool → Option State
+abbrev pub counted_in : Size → Counts → ℕ → Option (List FieldList) → FieldList → FieldList → List Scope → Bool
+    → Option State
 counted_in z h zero ts front os k true = None
 counted_in z h zero ts front os k false = Some (os, bag_members z h zero ts front ∷ k)
 counted_in z h (suc n) ts front os k true = Some ([], bag_members z h n (Some (with_open ts os)) front ∷ k)
@@ -150,8 +151,10 @@ extended_field_list al ms root slots q =
     (field_list_at (Per.additions al (map (opened al) slots)) (on (on q (as_field_list (true ∷ ms))) root)))
     (Some (as_field_list (false ∷ ms) ++ root))
 
-abbrev pub closed_added : Bool → ℕ → List Bool → FieldList → List (Option (List Bool)) → FieldList → List Scope → Option State
-closed_added al zero ms root slots front k = adds_field_list (extended_field_list al ms root slots (position (front, k))) (front, k)
+abbrev pub closed_added : Bool → ℕ → List Bool → FieldList → List (Option (List Bool)) → FieldList → List Scope
+    → Option State
+closed_added al zero ms root slots front k =
+    adds_field_list (extended_field_list al ms root slots (position (front, k))) (front, k)
 closed_added al n ms root slots front k = None
 
 -- After the root components of a type with an extension bit come the additions.
@@ -163,8 +166,8 @@ abbrev pub extended : ℕ → FieldList → List Scope → Option State
 extended n os (components e due ms front ∷ k) = rooted e due ms front os k n
 extended n os k = None
 
-abbrev pub next_addition : ℕ → List Bool → FieldList → List (Option (List Bool)) → FieldList → FieldList → List Scope → Bool
-    → Option State
+abbrev pub next_addition : ℕ → List Bool → FieldList → List (Option (List Bool)) → FieldList → FieldList → List Scope
+    → Bool → Option State
 next_addition zero ms root slots front os k b = None
 next_addition (suc n) ms root slots front os k false = Some (os, added n ms root (slots ++ None ∷ []) front ∷ k)
 next_addition (suc n) ms root slots front os k true = Some ([], open_type os ∷ added n ms root slots front ∷ k)

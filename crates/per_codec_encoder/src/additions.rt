@@ -1,13 +1,16 @@
 //! Extension additions of sequences and sets, which are stored until these end.
-ghost use Rattle.std.specs.Prelude.{◌≡◌, ◌⊎◌, Bool, MatchResult};
+ghost use Rattle.std.specs.Prelude.{◌≡◌, ◌⊎◌, ◌∷◌, Bool, IfErr, MatchResult, OnOk};
 ghost use Rattle.asn1_schema_laws.specs.Records.{additions_begin, addition, addition_ends};
-ghost use Rattle.per_codec_encoder.specs.Frames.{Next};
+ghost use Rattle.per_codec_packing.specs.Packed.{Packed};
+ghost use Rattle.per_codec_encoder.specs.declared.frame.Frame.{Frame};
+ghost use Rattle.per_codec_encoder.specs.Frames.{CountsAddition, KeepsAddition, Next};
 ghost use Rattle.per_codec_encoder.specs.Holding.{Does, Cannot};
 
 use crate::frame::{Additions, Frame, Position};
 use crate::frames::Frames;
-use crate::nested::Nested;
 use asn1_schema_errors::EncodeError;
+use asn1_schema_scopes::Stack;
+use asn1_values_bits::BitBuffer;
 use per_codec_additions::Slots;
 use per_codec_packing::Packing;
 use std::alloc::Global;
@@ -21,22 +24,23 @@ use std::mem;
 /// due; `OutOfMemory`.
 pub(crate) fn open_additions(
     output: &Packing,
-    frames: &mut Nested,
+    others: &mut Stack<Frame>,
     alloc: Global,
     count: usize,
 ) -> Result<(), EncodeError>
     ensures { MatchResult result (λ _. (al : Bool)
-        → Does al (additions_begin count) frames.old output.now frames.new output.now)
-        (λ e. (al : Bool) → Cannot al (additions_begin count) frames.old output.now e) }
+        → Does al (additions_begin count) others.old output.now others.new output.now)
+        (λ e. (al : Bool) → Cannot al (additions_begin count) others.old output.now e) }
 {
-    let Some(
-        Frame::Components {
-            extensible,
-            due,
-            given,
-            start,
-        },
-    ) = frames.innermost()
+    let Some(innermost) = &others.innermost else {
+        return Err(EncodeError::CallOutOfPlace);
+    };
+    let Frame::Components {
+        extensible,
+        due,
+        given,
+        start,
+    } = innermost
     else {
         return Err(EncodeError::CallOutOfPlace);
     };
@@ -45,7 +49,7 @@ pub(crate) fn open_additions(
     }
     let (given, start) = (*given, *start);
     let slots = Slots::with_capacity(alloc, count)?;
-    frames.replace(Frame::Added(Additions {
+    others.innermost = Some(Frame::Added(Additions {
         due: count,
         given,
         start,
@@ -69,6 +73,44 @@ pub(crate) fn count_addition(additions: &mut Additions, present: bool) -> Result
         additions.slots.push_absent()?;
     }
     additions.due -= 1;
+    Ok(())
+}
+
+/// Counts the next addition of the innermost sequence or set.
+///
+/// # Errors
+///
+/// `CallOutOfPlace` if the innermost frame takes no addition, or none is due; `OutOfMemory`.
+#[inline(always)]
+pub(crate) fn next_addition(others: &mut Stack<Frame>, present: bool) -> Result<(), EncodeError>
+    ensures ok { OnOk result (CountsAddition present others.old others.new) }
+    ensures only { IfErr result (λ e. (al : Bool) (o : Packed) → Cannot al (addition present) others.old o e) }
+{
+    match &mut others.innermost {
+        Some(Frame::Added(additions)) => count_addition(additions, present)?,
+        _ => return Err(EncodeError::CallOutOfPlace),
+    }
+    Ok(())
+}
+
+/// Stores the bits of an addition of the innermost sequence or set.
+///
+/// # Errors
+///
+/// `CallOutOfPlace` if the innermost frame takes no addition; `OutOfMemory`.
+#[inline(always)]
+pub(crate) fn keep_addition(
+    others: &mut Stack<Frame>,
+    contents: &BitBuffer,
+) -> Result<(), EncodeError>
+    ensures ok { OnOk result (KeepsAddition contents.now others.old others.new) }
+    ensures only { IfErr result (λ e. (al : Bool) (outer o : Packed)
+        → Cannot al addition_ends (Frame.OpenType outer ∷ others.old) o e) }
+{
+    match &mut others.innermost {
+        Some(Frame::Added(additions)) => additions.slots.push_present(contents)?,
+        _ => return Err(EncodeError::CallOutOfPlace),
+    }
     Ok(())
 }
 
@@ -104,7 +146,7 @@ pub(crate) fn end_addition(output: &mut Packing, frames: &mut Frames) -> Result<
     ensures { MatchResult result (λ _. (al : Bool) → Does al addition_ends frames.old output.old frames.new output.new)
         (λ e. (al : Bool) → Cannot al addition_ends frames.old output.old e) }
 {
-    let Some(Frame::OpenType { outer }) = frames.pop() else {
+    let Some(Frame::OpenType { outer }) = frames.close() else {
         return Err(EncodeError::CallOutOfPlace);
     };
     let contents = mem::replace(output, outer).into_bits();

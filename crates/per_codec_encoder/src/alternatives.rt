@@ -42,6 +42,6 @@ pub(crate) fn begin_alternative(
         frames.open_type(output, alloc)?;
         return Ok(());
     }
-    frames.push(Frame::Alternative)?;
+    frames.open(Frame::Alternative)?;
     Ok(())
 }

@@ -52,7 +52,7 @@ pub(crate) fn begin_bag(
         members: None,
     };
     let boxed = Box::new(alloc, bag)?;
-    frames.push(Frame::Bag(boxed))?;
+    frames.open(Frame::Bag(boxed))?;
     Ok(())
 }
 

@@ -1,6 +1,6 @@
 //! The encoder.
 ghost use Rattle.std.specs.Prelude.{◌≡◌, OnOk, OnErr, IfOk, IfErr, MatchResult, [], Some, true, false};
-ghost use Rattle.asn1_schema_encode.specs.Fronts.{no_front};
+ghost use Rattle.asn1_schema_encode.specs.EarlierOctets.{no_front};
 ghost use Rattle.asn1_schema_encode.specs.Writes.{Refused};
 ghost use Rattle.asn1_schema_laws.specs.Records.{one_of};
 ghost use Rattle.per_codec_packing.specs.FieldLists.{as_field_list};
@@ -20,7 +20,7 @@ use crate::sequences::begin_components;
 use asn1_schema_constraints::{Bounded, Constraints};
 use asn1_schema_encode::{begin_record, go_on};
 use asn1_schema_errors::{CodecKind, EncodeError};
-use asn1_schema_tags::{Chosen, Enumerated, Identifier, Tag};
+use asn1_schema_tags::{Chosen, EnumerationItems, Identifier, Tag};
 use asn1_values_alphabets::StaticPermittedAlphabet;
 use asn1_values_bits::{BitBuffer, BitStr};
 use asn1_values_identifiers::Oid;
@@ -46,7 +46,7 @@ pub struct Encoder {
 }
 
 impl Model for Encoder {
-    ghost use Rattle.std.specs.Prelude.{◌≡◌, false, reverse};
+    ghost use Rattle.std.specs.Prelude.{◌≡◌, false};
     ghost use Rattle.per_codec_encoder.specs.Stepping.{Written};
     ghost use Rattle.per_codec_rules.specs.Variants.{is_aligned};
 
@@ -55,12 +55,12 @@ impl Model for Encoder {
     ghost use Rattle.per_codec_encoder.specs.Holding.{shown, Holds};
 
     ghost view = { λ e. record {
-      state = shown (reverse e.frames) e.output;
+      state = shown e.frames e.output;
       aligned = is_aligned e.variant;
       failed = e.failed;
     } };
 
-    ghost invariant = { λ e. e.failed ≡ false → Holds (reverse e.frames) e.output (shown (reverse e.frames) e.output) };
+    ghost invariant = { λ e. e.failed ≡ false → Holds e.frames e.output (shown e.frames e.output) };
 }
 
 /// The octets of a message: its bits padded with zero bits to whole octets, or one zero octet if there are no bits
@@ -203,19 +203,25 @@ impl asn1_schema_encode::Encoder for Encoder {
         )
     }
 
-    fn encode_enumerated<T: Enumerated>(
+    fn encode_item_of<I: EnumerationItems>(
         &mut self,
         _tag: Tag,
-        value: &T,
+        items: &I,
+        item: &I::Item,
         _identifier: Identifier,
     ) -> Result<(), EncodeError>
         ensures ok { OnOk result (Puts self.old
-            (one_of T.roots T.extensible T.additions (T.number value.now)) self.new) }
+            (one_of (I.roots items.now) (I.extensible items.now) (I.additions items.now) (I.number item.now))
+            self.new) }
         ensures only { IfErr result (Refused Puts
-            (one_of T.roots T.extensible T.additions (T.number value.now)) self.old) }
+            (one_of (I.roots items.now) (I.extensible items.now) (I.additions items.now) (I.number item.now))
+            self.old) }
         ensures call { EncoderCall (λ s. s.failed ≡ true) no_front self.old self.new result }
     {
-        record!(self, push_enumerated(&mut self.output, self.variant, value))
+        record!(
+            self,
+            push_enumerated(&mut self.output, self.variant, items, item)
+        )
     }
 
     #[inline(always)]

@@ -1,5 +1,5 @@
 //! Ends of frames.
-ghost use Rattle.std.specs.Prelude.{◌≡◌, ◌<◌, ◌++◌, ◌∷◌, [], Bool, List, true, false, length, cond, IfOk, IfErr};
+ghost use Rattle.std.specs.Prelude.{◌≡◌, ◌<◌, ◌∷◌, Bool, List, true, false, length, IfOk, IfErr};
 ghost use Rattle.std.specs.Prelude.{MatchResult};
 ghost use Rattle.asn1_model.specs.Form.{is_any_present};
 ghost use Rattle.asn1_model.specs.Per.{additions};
@@ -16,6 +16,7 @@ use crate::bags::end_bag;
 use crate::frame::{Additions, Frame};
 use crate::frames::Frames;
 use asn1_schema_errors::EncodeError;
+use asn1_schema_scopes::Stack;
 use per_codec_additions::{Slots, push_additions};
 use per_codec_packing::Packing;
 use per_codec_rules::Variant;
@@ -56,10 +57,10 @@ fn end_additions(
     additions: Additions,
     variant: Variant,
 ) -> Result<(), EncodeError>
-    requires { (around : List Frame) × AreSound (around ++ Frame.Added additions ∷ []) output.old }
+    requires { (around : List Frame) × AreSound (Frame.Added additions ∷ around) output.old }
     ensures { MatchResult result (λ _. (around : List Frame)
-        → Does (is_aligned variant) ends (around ++ Frame.Added additions ∷ []) output.old around output.new)
-        (λ e. (around : List Frame) → Cannot (is_aligned variant) ends (around ++ Frame.Added additions ∷ [])
+        → Does (is_aligned variant) ends (Frame.Added additions ∷ around) output.old around output.new)
+        (λ e. (around : List Frame) → Cannot (is_aligned variant) ends (Frame.Added additions ∷ around)
         output.old e) }
 {
     if additions.due > 0 {
@@ -75,7 +76,7 @@ fn end_additions(
 #[inline(always)]
 fn end_open_type(output: &mut Packing, outer: Packing, variant: Variant) -> Result<(), EncodeError>
     ensures { MatchResult result (λ _. (around : List Frame)
-        → Does (is_aligned variant) ends (around ++ Frame.OpenType outer ∷ []) output.old around output.new)
+        → Does (is_aligned variant) ends (Frame.OpenType outer ∷ around) output.old around output.new)
         (λ e. e ≡ EncodeError.OutOfMemory) }
 {
     let contents = mem::replace(output, outer).into_bits();
@@ -85,11 +86,11 @@ fn end_open_type(output: &mut Packing, outer: Packing, variant: Variant) -> Resu
 
 /// Whether nothing is due in a frame, and nothing is written at its end.
 #[inline(always)]
-pub(crate) fn is_complete(frame: &Frame) -> bool
+fn is_complete(frame: &Frame) -> bool
     ensures complete { result ≡ true → (al : Bool) (fs : List Frame) (o : Packed)
-        → Does al ends (fs ++ frame.now ∷ []) o fs o }
+        → Does al ends (frame.now ∷ fs) o fs o }
     ensures due { result ≡ false → is_written_at_end frame.now ≡ false → (al : Bool) (fs : List Frame) (o : Packed)
-        → Cannot al ends (fs ++ frame.now ∷ []) o EncodeError.CallOutOfPlace }
+        → Cannot al ends (frame.now ∷ fs) o EncodeError.CallOutOfPlace }
 {
     match frame {
         Frame::Components {
@@ -113,6 +114,22 @@ pub(crate) fn is_complete(frame: &Frame) -> bool
     }
 }
 
+/// Ends the innermost frame, if nothing is due in it and nothing is written at its end. Returns whether it did.
+#[inline(always)]
+pub(crate) fn end_complete(others: &mut Stack<Frame>) -> bool
+    ensures ended { result ≡ true → (al : Bool) (o : Packed) → Does al ends others.old o others.new o }
+    ensures same { result ≡ false → others.new ≡ others.old }
+{
+    let Some(innermost) = &others.innermost else {
+        return false;
+    };
+    if !is_complete(innermost) {
+        return false;
+    }
+    let _closed = others.close();
+    true
+}
+
 /// Ends the innermost frame, as `end_scope` does.
 fn end_taken(
     output: &mut Packing,
@@ -124,7 +141,7 @@ fn end_taken(
     ensures { MatchResult result (λ _. Does (is_aligned variant) ends frames.old output.old frames.new output.new)
         (Cannot (is_aligned variant) ends frames.old output.old) }
 {
-    match frames.pop() {
+    match frames.close() {
         Some(Frame::Added(additions)) => end_additions(output, additions, variant),
         Some(Frame::OpenType { outer }) => end_open_type(output, outer, variant),
         Some(Frame::Bag(boxed)) => {

@@ -1,6 +1,5 @@
-//! The open frames, outermost first.
-ghost use Rattle.std.specs.Prelude.{◌≡◌, ◌++◌, ◌∷◌, [], Bool, None, true, false, OnOk, IfErr, MatchResult};
-ghost use Rattle.std.specs.Prelude.{option_to_list};
+//! The open frames, the innermost first.
+ghost use Rattle.std.specs.Prelude.{◌≡◌, ◌∷◌, [], Bool, None, true, false, OnOk, IfErr, MatchOption, MatchResult};
 ghost use Rattle.asn1_schema_laws.specs.Records.{addition, addition_ends, additions_begin, ends, further};
 ghost use Rattle.asn1_schema_laws.specs.Records.{presence_bit};
 ghost use Rattle.per_codec_packing.specs.Packed.{Packed};
@@ -9,11 +8,12 @@ ghost use Rattle.per_codec_encoder.specs.Frames.{enclosed, CountsAddition, Keeps
 ghost use Rattle.per_codec_encoder.specs.Holding.{AreSound, Does, Cannot};
 ghost use Rattle.per_codec_rules.specs.Variants.{is_aligned};
 
-use crate::additions::open_additions;
+use crate::additions::{keep_addition, next_addition, open_additions};
+use crate::ends::end_complete;
 use crate::frame::Frame;
-use crate::nested::Nested;
 use crate::sequences::{next_member, set_presence_bit};
 use asn1_schema_errors::EncodeError;
+use asn1_schema_scopes::Stack;
 use asn1_values_bits::BitBuffer;
 use per_codec_packing::Packing;
 use per_codec_rules::Variant;
@@ -21,12 +21,12 @@ use std::alloc::{AllocError, Global};
 use std::marker::Model;
 use std::mem;
 
-/// The open frames, outermost first. An open type that is innermost is stored apart until something opens in it.
+/// The open frames, the innermost first. An open type that is innermost is stored apart until something opens in it.
 #[derive(Drop)]
 pub(crate) struct Frames {
     // What precedes the innermost open type, if that is the innermost frame.
     enclosing: Option<Packing>,
-    nested: Nested,
+    others: Stack<Frame>,
     // The buffer of an open type that has ended, for the next one.
     room: Vec<u8>,
 }
@@ -38,20 +38,20 @@ impl Model for Frames {
 
     ghost Value = { List Frame };
 
-    ghost view = { λ f. enclosed f.enclosing f.nested };
+    ghost view = { λ f. enclosed f.enclosing f.others };
 }
 
 /// Moves an innermost open type to the other frames.
 #[inline(always)]
-fn settle(enclosing: &mut Option<Packing>, nested: &mut Nested) -> Result<(), AllocError>
+fn settle(enclosing: &mut Option<Packing>, others: &mut Stack<Frame>) -> Result<(), AllocError>
     ensures none { OnOk result (enclosing.new ≡ None) }
-    ensures same { OnOk result (nested.new ≡ enclosed enclosing.old nested.old) }
+    ensures same { OnOk result (others.new ≡ enclosed enclosing.old others.old) }
 {
     if enclosing.is_none() {
         return Ok(());
     }
     if let Some(outer) = enclosing.take() {
-        nested.push(Frame::OpenType { outer })?;
+        others.open(Frame::OpenType { outer })?;
     }
     Ok(())
 }
@@ -63,7 +63,7 @@ impl Frames {
     {
         Frames {
             enclosing: None,
-            nested: Nested::new(alloc),
+            others: Stack::new(alloc),
             room: Vec::new(alloc),
         }
     }
@@ -76,24 +76,27 @@ impl Frames {
         if self.enclosing.is_some() {
             self.enclosing = None;
         }
-        self.nested.clear();
+        self.others.clear();
     }
 
     /// Drops all frames.
     #[inline(always)]
     pub(crate) fn let_go(self) {
-        let Frames { nested, .. } = self;
-        nested.let_go();
+        let Frames { others, .. } = self;
+        others.let_go();
     }
 
-    /// Opens a frame inside the innermost one. That one is dropped if an allocation fails.
+    /// Opens a frame inside all others.
+    ///
+    /// # Errors
+    ///
+    /// `AllocError` if memory ran out; an innermost open type is then dropped.
     #[inline(always)]
-    pub(crate) fn push(&mut self, frame: Frame) -> Result<(), AllocError>
-        ensures items { OnOk result (self.new ≡ self.old ++ frame ∷ []) }
+    pub(crate) fn open(&mut self, frame: Frame) -> Result<(), AllocError>
+        ensures items { OnOk result (self.new ≡ frame ∷ self.old) }
     {
-        settle(&mut self.enclosing, &mut self.nested)?;
-        self.nested.push(frame)?;
-        Ok(())
+        settle(&mut self.enclosing, &mut self.others)?;
+        self.others.open(frame)
     }
 
     /// Opens an open type, whose bits are kept apart, in the buffer of an earlier one. What precedes it is stored.
@@ -107,23 +110,22 @@ impl Frames {
         output: &mut Packing,
         alloc: Global,
     ) -> Result<(), AllocError>
-        ensures items { OnOk result (self.new ≡ self.old ++ Frame.OpenType output.old ∷ []) }
+        ensures items { OnOk result (self.new ≡ Frame.OpenType output.old ∷ self.old) }
         ensures bits { OnOk result (output.new ≡ record { field_list = []; placed = true }) }
     {
-        settle(&mut self.enclosing, &mut self.nested)?;
+        settle(&mut self.enclosing, &mut self.others)?;
         let room = mem::replace(&mut self.room, Vec::new(alloc));
         self.enclosing = Some(mem::replace(output, Packing::from_octets(room)));
         Ok(())
     }
 
-    /// Takes the innermost frame, if there is one.
+    /// Closes the innermost frame and returns it, if one is open.
     #[inline(always)]
-    pub(crate) fn pop(&mut self) -> Option<Frame>
-        ensures items { self.old ≡ self.new ++ option_to_list result }
-        ensures none { result ≡ None → self.old ≡ [] }
+    pub(crate) fn close(&mut self) -> Option<Frame>
+        ensures items { MatchOption result (self.old ≡ []) (λ frame. self.old ≡ frame ∷ self.new) }
     {
         if self.enclosing.is_none() {
-            return self.nested.pop();
+            return self.others.close();
         }
         match self.enclosing.take() {
             Some(outer) => Some(Frame::OpenType { outer }),
@@ -140,7 +142,7 @@ impl Frames {
         if self.enclosing.is_some() {
             return false;
         }
-        self.nested.end_complete()
+        end_complete(&mut self.others)
     }
 
     /// Begins the `count` extension additions, after the root of the innermost sequence or set with an extension bit
@@ -164,7 +166,7 @@ impl Frames {
         if self.enclosing.is_some() {
             return Err(EncodeError::CallOutOfPlace);
         }
-        open_additions(output, &mut self.nested, alloc, count)
+        open_additions(output, &mut self.others, alloc, count)
     }
 
     /// Sets the presence bit of the next component of the innermost sequence, set or group that may be absent (X.691
@@ -187,7 +189,7 @@ impl Frames {
         if self.enclosing.is_some() {
             return Err(EncodeError::CallOutOfPlace);
         }
-        set_presence_bit(output, &mut self.nested, present)
+        set_presence_bit(output, &mut self.others, present)
     }
 
     /// Begins a further element of the innermost list or bag if `more`, else expects none to be due.
@@ -211,7 +213,7 @@ impl Frames {
         if self.enclosing.is_some() {
             return Err(EncodeError::CallOutOfPlace);
         }
-        next_member(output, &mut self.nested, alloc, variant, more)
+        next_member(output, &mut self.others, alloc, variant, more)
     }
 
     /// Stores the bits of an addition of the innermost sequence or set. Their buffer is reused for the next open
@@ -224,12 +226,12 @@ impl Frames {
     pub(crate) fn keep_addition(&mut self, contents: BitBuffer) -> Result<(), EncodeError>
         ensures ok { OnOk result (KeepsAddition contents self.old self.new) }
         ensures only { IfErr result (λ e. (al : Bool) (outer o : Packed)
-            → Cannot al addition_ends (self.old ++ Frame.OpenType outer ∷ []) o e) }
+            → Cannot al addition_ends (Frame.OpenType outer ∷ self.old) o e) }
     {
         if self.enclosing.is_some() {
             return Err(EncodeError::CallOutOfPlace);
         }
-        let kept = self.nested.keep_addition(&contents);
+        let kept = keep_addition(&mut self.others, &contents);
         self.room = contents.into_vec();
         kept
     }
@@ -247,6 +249,6 @@ impl Frames {
         if self.enclosing.is_some() {
             return Err(EncodeError::CallOutOfPlace);
         }
-        self.nested.next_addition(present)
+        next_addition(&mut self.others, present)
     }
 }

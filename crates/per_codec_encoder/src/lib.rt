@@ -10,7 +10,6 @@ mod ends;
 mod frame;
 mod frames;
 mod members;
-mod nested;
 mod options;
 mod sequences;
 pub mod step_laws;

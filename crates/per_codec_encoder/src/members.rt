@@ -39,7 +39,7 @@ pub(crate) fn begin_members(
         return Err(EncodeError::SizeConstraintNotSatisfied);
     }
     let due = push_heading(output, variant, sizes, false, count)?;
-    frames.push(Frame::Members(due))?;
+    frames.open(Frame::Members(due))?;
     Ok(())
 }
 

@@ -1,5 +1,5 @@
 //! Sequences, sets and groups, with the positions of their preambles, and elements of lists and bags.
-ghost use Rattle.std.specs.Prelude.{◌≡◌, Bool, List, [], ◌∷◌, ◌++◌, ◌+◌, ◌≤◌, ◌^◌, cond, MatchOption, MatchResult};
+ghost use Rattle.std.specs.Prelude.{◌≡◌, Bool, List, ◌∷◌, ◌+◌, ◌≤◌, ◌^◌, cond, MatchOption, MatchResult};
 ghost use Rattle.asn1_schema_laws.specs.Records.{sequence_begins, presence_bit, further};
 ghost use Rattle.per_codec_encoder.specs.declared.frame.Frame.{Frame};
 ghost use Rattle.per_codec_encoder.specs.Holding.{AreSound, Does, Cannot};
@@ -9,8 +9,8 @@ use crate::bags::next_of_bag;
 use crate::frame::{Frame, Position};
 use crate::frames::Frames;
 use crate::members::next_of_list;
-use crate::nested::Nested;
 use asn1_schema_errors::EncodeError;
+use asn1_schema_scopes::Stack;
 use per_codec_packing::Packing;
 use per_codec_rules::Variant;
 use std::alloc::Global;
@@ -46,7 +46,7 @@ pub(crate) fn begin_components(
         return Err(EncodeError::OutOfMemory);
     };
     output.resize(end, false)?;
-    frames.push(Frame::Components {
+    frames.open(Frame::Components {
         extensible,
         due: optional,
         given: 0,
@@ -63,15 +63,15 @@ pub(crate) fn begin_components(
 #[inline(always)]
 pub(crate) fn set_presence_bit(
     output: &mut Packing,
-    frames: &mut Nested,
+    others: &mut Stack<Frame>,
     present: bool,
 ) -> Result<(), EncodeError>
-    requires { AreSound frames.old output.old }
-    ensures { MatchResult result (λ _. (al : Bool) → Does al (presence_bit present) frames.old output.old frames.new
+    requires { AreSound others.old output.old }
+    ensures { MatchResult result (λ _. (al : Bool) → Does al (presence_bit present) others.old output.old others.new
         output.new)
-        (λ e. (al : Bool) → Cannot al (presence_bit present) frames.old output.old e) }
+        (λ e. (al : Bool) → Cannot al (presence_bit present) others.old output.old e) }
 {
-    let Some(innermost) = &mut frames.innermost else {
+    let Some(innermost) = &mut others.innermost else {
         return Err(EncodeError::CallOutOfPlace);
     };
     let Frame::Components {
@@ -102,9 +102,9 @@ fn next_of_frame(
     more: bool,
 ) -> Result<(), EncodeError>
     ensures { MatchResult result (λ _. (fs : List Frame)
-        → Does (is_aligned variant) (further more) (fs ++ innermost.old ∷ []) output.old
-        (fs ++ innermost.new ∷ []) output.new)
-        (λ e. (fs : List Frame) → Cannot (is_aligned variant) (further more) (fs ++ innermost.old ∷ []) output.old e) }
+        → Does (is_aligned variant) (further more) (innermost.old ∷ fs) output.old
+        (innermost.new ∷ fs) output.new)
+        (λ e. (fs : List Frame) → Cannot (is_aligned variant) (further more) (innermost.old ∷ fs) output.old e) }
 {
     if let Frame::Members(due) = innermost {
         return next_of_list(output, variant, due, more);
@@ -124,17 +124,17 @@ fn next_of_frame(
 #[inline(always)]
 pub(crate) fn next_member(
     output: &mut Packing,
-    frames: &mut Nested,
+    others: &mut Stack<Frame>,
     alloc: Global,
     variant: Variant,
     more: bool,
 ) -> Result<(), EncodeError>
     ensures { MatchResult result (λ _. Does (is_aligned variant) (further more)
-        frames.old output.old frames.new output.new)
-        (Cannot (is_aligned variant) (further more) frames.old output.old) }
+        others.old output.old others.new output.new)
+        (Cannot (is_aligned variant) (further more) others.old output.old) }
 {
-    match &mut frames.innermost {
-        Some(innermost) => next_of_frame(output, innermost, alloc, variant, more),
-        None => Err(EncodeError::CallOutOfPlace),
-    }
+    let Some(innermost) = &mut others.innermost else {
+        return Err(EncodeError::CallOutOfPlace);
+    };
+    next_of_frame(output, innermost, alloc, variant, more)
 }

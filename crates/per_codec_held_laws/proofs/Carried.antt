@@ -118,7 +118,16 @@ fewer m l a b failed e h w (inl i) = let j = i.1 in inl (w i.0, omega arith)
 fewer m l a b failed e h w (inr i) = inr i
 
 pub nothing_more : (a : Held) → a ≡ held_with [] a
-nothing_more a = sym (ap (λ (t : State). let h : Held = record { place = t.0; scopes = t.1; levels = a.levels; most = a.most; failed = a.failed; rules = a.rules; stands = a.stands } in h) (more_none (state_of a)))
+nothing_more a = sym (ap (λ (t : State). let h : Held = record {
+  place = t.0;
+  scopes = t.1;
+  levels = a.levels;
+  most = a.most;
+  failed =
+      a.failed;
+  rules = a.rules;
+  stands = a.stands;
+} in h) (more_none (state_of a)))
 
 pub few_at_once : (n : ℕ) (a failed : Held) → FewHeld n a failed a
 few_at_once n a failed = ([], nothing_more a, inr refl)
@@ -158,26 +167,31 @@ level_kept : (a b : Held) (v : Bool) → Finds a (further v) b → b.levels ≡ 
 level_kept a b v t = let e : Some a.levels ≡ Some b.levels = t.levels in cc e
 
 -- an element that is due comes in any case; if none is due, none is missing
-asked_in : (a failed : Held) → ((c : Held) → TooFewHeld a failed c → (v : Bool) (d : Held) → Finds c (further v) d → ⊥) → (k : List Scope) → a.scopes ≡ k → (e : List Bool) → Fewer (due (around k)) a failed e → (v : Bool) (d : Held) → Finds (held_with e a) (further v) d → ⊥
+asked_in : (a failed : Held) → ((c : Held) → TooFewHeld a failed c → (v : Bool) (d : Held) → Finds c (further v) d → ⊥) → (k : List Scope) →
+    a.scopes ≡ k → (e : List Bool) → Fewer (due (around k)) a failed e → (v : Bool) (d : Held) → Finds (held_with e a) (further v) d → ⊥
 asked_in a failed h (members (suc m) hs ∷ k) q e f v d p =
     let b : Held = record { place = a.place; scopes = members m hs ∷ k; levels = a.levels; most = a.most; failed = a.failed; rules = a.rules; stands = a.stands } in
-    let n : NextMember (is_aligned a.rules) (freedoms a.rules) true a.place a.scopes (state_of b) = subst (λ l. NextMember (is_aligned a.rules) (freedoms a.rules) true a.place l (state_of b)) (sym q) (refl, refl) in
+    let n : NextMember (is_aligned a.rules) (freedoms a.rules) true a.place a.scopes (state_of b) =
+    subst (λ l. NextMember (is_aligned a.rules) (freedoms a.rules) true a.place l (state_of b)) (sym q) (refl, refl) in
     let t : Finds a (further true) b = record { ready = p.ready; taken = n; levels = refl; most = refl; ready_still = p.ready; rules = refl; stands = refl } in
     h a (few_at_once (due a.scopes) a failed) true b t
 asked_in a failed h (members zero hs ∷ k) q e f v d p =
     let o : due a.scopes ≡ due k = ap (λ l. due l) q ∙ none_owed hs k in
     h (held_with e a) (e, refl, fewer (due a.scopes) (due k) a a failed e (as_many (due a.scopes) (due k) o) (λ i. i) f) v d p
 asked_in a failed h [] q e f v d p = absurd (subst (λ l. NextMember (is_aligned a.rules) (freedoms a.rules) v (place_with e a.scopes a.place) (scopes_with e l) (state_of d)) q p.taken)
-asked_in a failed h (components x ms ∷ k) q e f v d p = absurd (subst (λ l. NextMember (is_aligned a.rules) (freedoms a.rules) v (place_with e a.scopes a.place) (scopes_with e l) (state_of d)) q p.taken)
+asked_in a failed h (components x ms ∷ k) q e f v d p = absurd
+    (subst (λ l. NextMember (is_aligned a.rules) (freedoms a.rules) v (place_with e a.scopes a.place) (scopes_with e l) (state_of d)) q p.taken)
 asked_in a failed h (added ms us ∷ k) q e f v d p = absurd (subst (λ l. NextMember (is_aligned a.rules) (freedoms a.rules) v (place_with e a.scopes a.place) (scopes_with e l) (state_of d)) q p.taken)
 asked_in a failed h (open_type r ∷ k) q e f v d p = absurd (subst (λ l. NextMember (is_aligned a.rules) (freedoms a.rules) v (place_with e a.scopes a.place) (scopes_with e l) (state_of d)) q p.taken)
 asked_in a failed h (alternative ∷ k) q e f v d p = absurd (subst (λ l. NextMember (is_aligned a.rules) (freedoms a.rules) v (place_with e a.scopes a.place) (scopes_with e l) (state_of d)) q p.taken)
 
-held_asked : (a failed : Held) → ((c : Held) → TooFewHeld a failed c → (v : Bool) (d : Held) → Finds c (further v) d → ⊥) → (c : Held) → TooFewMembersHeld a failed c → (v : Bool) (d : Held) → Finds c (further v) d → ⊥
+held_asked : (a failed : Held) → ((c : Held) → TooFewHeld a failed c → (v : Bool) (d : Held) → Finds c (further v) d → ⊥) → (c : Held) →
+    TooFewMembersHeld a failed c → (v : Bool) (d : Held) → Finds c (further v) d → ⊥
 held_asked a failed h c f v d t = asked_in a failed h a.scopes refl f.0 f.2 v d (subst (λ (s : Held). Finds s (further v) d) f.1 t)
 
 -- how deep elements nest
-members_deep : (al : Bool) (free : Per.Freedom → Bool) (s : Schema) (most : ℕ) (vs : Values) (a c : State) (l m : ℕ) → Chain (Takes al free) (member_records (λ w. presents s w) vs) a c → Chain (Level most) (member_records (λ w. presents s w) vs) l m → l ≤ most → depth_of_members vs ≤ l
+members_deep : (al : Bool) (free : Per.Freedom → Bool) (s : Schema) (most : ℕ) (vs : Values) (a c : State) (l m : ℕ) →
+    Chain (Takes al free) (member_records (λ w. presents s w) vs) a c → Chain (Level most) (member_records (λ w. presents s w) vs) l m → l ≤ most → depth_of_members vs ≤ l
 unfolding depth_of_members
 members_deep al free s most no_more a c l m q r i = omega arith
 members_deep al free s most (member v vs) a c l m q r i =
@@ -191,7 +205,8 @@ members_deep al free s most (member v vs) a c l m q r i =
     let u : depth v ≤ r.0 = d.0 in
     omega arith
 
-module _ (s : Schema) (lawful : IsLawful s) (a b failed : Held) (t : Finds a (further true) b) (h : (c : Held) → TooFewHeld b failed c → (v : Value) (d : Held) → Fits s v → Chain Finds (presents s v) c d → ⊥) where
+module _ (s : Schema) (lawful : IsLawful s) (a b failed : Held) (t : Finds a (further true) b)
+    (h : (c : Held) → TooFewHeld b failed c → (v : Value) (d : Held) → Fits s v → Chain Finds (presents s v) c d → ⊥) where
   module _ (i : a.levels ≤ a.most) where
     b_within : b.levels ≤ b.most
     b_within = found_within a (further true) b t i
@@ -203,18 +218,24 @@ module _ (s : Schema) (lawful : IsLawful s) (a b failed : Held) (t : Finds a (fu
     none_there : Absent (is_aligned b.rules) (freedoms b.rules) (any_bitmap b.rules) (any_order b.rules) s b.levels (lacks failed) (state_of b)
     none_there c f v d fits deep q =
         let e : Held = held_with f.0 b in
-        let x : Chain (Takes (is_aligned b.rules) (freedoms b.rules)) (presents s v) (state_of e) d = subst (λ (y : State). Chain (Takes (is_aligned b.rules) (freedoms b.rules)) (presents s v) y d) f.1 q in
+        let x : Chain (Takes (is_aligned b.rules) (freedoms b.rules)) (presents s v) (state_of e) d =
+        subst (λ (y : State). Chain (Takes (is_aligned b.rules) (freedoms b.rules)) (presents s v) y d) f.1 q in
         let l = (nests s v b.most b.levels b.levels fits b_within).1 (deep, refl) in
         let z = both_found (presents s v) e d b.levels t.ready_still x l in
         h e (f.0, refl, lacking f.0 f.2) v (held_at e d b.levels z.0) fits z.1
 
-    held_stuck : (more : List Bool) (d : Held) → (length more + due (around a.scopes) ≤ lacks failed) → Finds (held_with more a) (further true) d → (v : Value) (vs : Values) (e : Held) → Chain Finds (presents s v ++ member_records (λ w. presents s w) vs) d e → ⊥
+    held_stuck : (more : List Bool) (d : Held) → (length more + due (around a.scopes) ≤ lacks failed) → Finds (held_with more a) (further true) d →
+        (v : Value) (vs : Values) (e : Held) → Chain Finds (presents s v ++ member_records (λ w. presents s w) vs) d e → ⊥
     held_stuck more d j p v vs e q =
         let r : b.rules ≡ a.rules = t.rules in
         let u : d.rules ≡ b.rules = p.rules ∙ sym r in
-        let begun : Takes (is_aligned b.rules) (freedoms b.rules) (state_of a) (further true) (state_of b) = subst (λ (x : PackedRules). Takes (is_aligned x) (freedoms x) (state_of a) (further true) (state_of b)) (sym r) t.taken in
-        let begun' : Takes (is_aligned b.rules) (freedoms b.rules) (with_more more (state_of a)) (further true) (state_of d) = subst (λ (x : PackedRules). Takes (is_aligned x) (freedoms x) (with_more more (state_of a)) (further true) (state_of d)) (sym r) p.taken in
-        let all : Chain (Takes (is_aligned b.rules) (freedoms b.rules)) (presents s v ++ member_records (λ w. presents s w) vs) (state_of d) (state_of e) = subst (λ (x : PackedRules). Chain (Takes (is_aligned x) (freedoms x)) (presents s v ++ member_records (λ w. presents s w) vs) (state_of d) (state_of e)) u (bits_taken (presents s v ++ member_records (λ w. presents s w) vs) d e q) in
+        let begun : Takes (is_aligned b.rules) (freedoms b.rules) (state_of a) (further true) (state_of b) =
+        subst (λ (x : PackedRules). Takes (is_aligned x) (freedoms x) (state_of a) (further true) (state_of b)) (sym r) t.taken in
+        let begun' : Takes (is_aligned b.rules) (freedoms b.rules) (with_more more (state_of a)) (further true) (state_of d) =
+        subst (λ (x : PackedRules). Takes (is_aligned x) (freedoms x) (with_more more (state_of a)) (further true) (state_of d)) (sym r) p.taken in
+        let all : Chain (Takes (is_aligned b.rules) (freedoms b.rules)) (presents s v ++ member_records (λ w. presents s w) vs) (state_of d)
+        (state_of e) = subst (λ (x : PackedRules). Chain (Takes (is_aligned x) (freedoms x))
+        (presents s v ++ member_records (λ w. presents s w) vs) (state_of d) (state_of e)) u (bits_taken (presents s v ++ member_records (λ w. presents s w) vs) d e q) in
         let depths = levels_taken (presents s v ++ member_records (λ w. presents s w) vs) d e q in
         let y = chain_split (Takes (is_aligned b.rules) (freedoms b.rules)) (presents s v) (member_records (λ w. presents s w) vs) (state_of d) (state_of e) all in
         let z = chain_split (Level d.most) (presents s v) (member_records (λ w. presents s w) vs) d.levels e.levels depths in
@@ -226,7 +247,8 @@ module _ (s : Schema) (lawful : IsLawful s) (a b failed : Held) (t : Finds a (fu
         let o : z.0 ≡ d.levels = n.1 in
         let dv : depth v ≤ d.levels = n.0 in
         let dvs = members_deep (is_aligned b.rules) (freedoms b.rules) s d.most vs y.0 (state_of e) z.0 e.levels y.2 z.2 (omega arith) in
-        stuck_within (is_aligned b.rules) (freedoms b.rules) (any_bitmap b.rules) (any_order b.rules) s b.levels lawful (lacks failed) (state_of a) (state_of b) begun none_there (with_more more (state_of a)) (state_of d) (more, refl, inl j) begun' v vs (state_of e) (omega arith) (omega arith) all
+        stuck_within (is_aligned b.rules) (freedoms b.rules) (any_bitmap b.rules) (any_order b.rules) s b.levels lawful (lacks failed) (state_of a)
+        (state_of b) begun none_there (with_more more (state_of a)) (state_of d) (more, refl, inl j) begun' v vs (state_of e) (omega arith) (omega arith) all
 
   -- if the decoder lacks no more than was there
   same_next : (d : Held) → Finds a (further true) d → d ≡ b
@@ -237,17 +259,20 @@ module _ (s : Schema) (lawful : IsLawful s) (a b failed : Held) (t : Finds a (fu
       let y = chain_split Finds (presents s v) (member_records (λ w. presents s w) vs) d e q in
       h b (few_at_once (due b.scopes) b failed) v y.0 i (subst (λ (x : Held). Chain Finds (presents s v) x y.0) (same_next d p) y.1)
 
-  stuck_by : (more : List Bool) → Fewer (due (around a.scopes)) a failed more → (d : Held) → Finds (held_with more a) (further true) d → (v : Value) (vs : Values) (e : Held) → Fits s v → Chain Finds (presents s v ++ member_records (λ w. presents s w) vs) d e → ⊥
+  stuck_by : (more : List Bool) → Fewer (due (around a.scopes)) a failed more → (d : Held) → Finds (held_with more a) (further true) d →
+      (v : Value) (vs : Values) (e : Held) → Fits s v → Chain Finds (presents s v ++ member_records (λ w. presents s w) vs) d e → ⊥
   stuck_by more (inl j) d p v vs e i q = held_stuck j.0 more d j.1 p v vs e q
   stuck_by more (inr j) d p v vs e i q =
       let k : held_with more a ≡ a = ap (λ l. held_with l a) j ∙ sym (nothing_more a) in
       stuck_at_once d (subst (λ (x : Held). Finds x (further true) d) k p) v vs e i q
 
 around_list : (z : Size) (h : Counts) (n : ℕ) (a b : Held) → Finds a (list_begins z h n) b → due (around b.scopes) ≤ due a.scopes
-around_list z h n a b t = as_many (due (around b.scopes)) (due a.scopes) (ap (λ l. due l) (list_around (is_aligned a.rules) (freedoms a.rules) (any_bitmap a.rules) (any_order a.rules) z h n (state_of a) (state_of b) t.taken))
+around_list z h n a b t = as_many (due (around b.scopes)) (due a.scopes)
+    (ap (λ l. due l) (list_around (is_aligned a.rules) (freedoms a.rules) (any_bitmap a.rules) (any_order a.rules) z h n (state_of a) (state_of b) t.taken))
 
 around_bag : (z : Size) (h : Counts) (n : ℕ) (a b : Held) → Finds a (bag_begins z h n) b → due (around b.scopes) ≤ due a.scopes
-around_bag z h n a b t = as_many (due (around b.scopes)) (due a.scopes) (ap (λ l. due l) (list_around (is_aligned a.rules) (freedoms a.rules) (any_bitmap a.rules) (any_order a.rules) z h n (state_of a) (state_of b) t.taken))
+around_bag z h n a b t = as_many (due (around b.scopes)) (due a.scopes)
+    (ap (λ l. due l) (list_around (is_aligned a.rules) (freedoms a.rules) (any_bitmap a.rules) (any_order a.rules) z h n (state_of a) (state_of b) t.taken))
 
 pub held_members : CarriesMembers Finds TooFewHeld TooFewMembersHeld
 held_members = record {
@@ -259,9 +284,17 @@ held_members = record {
     held_with f.0 b,
     subst (λ (x : Held). Finds x (further true) (held_with f.0 m)) (sym f.1) (finds_more f.0 a (further true) m t),
     all_more f.0 (presents s v) m b q,
-    (f.0, refl, fewer (due (around b.scopes)) (due (around a.scopes)) a b failed f.0 (as_many (due (around b.scopes)) (due (around a.scopes)) (ap (λ l. due (around l)) (same_scopes s v m b q) ∙ ap (λ l. due l) (around_member (is_aligned a.rules) (freedoms a.rules) (any_bitmap a.rules) (any_order a.rules) true a.place a.scopes (state_of m) t.taken))) (λ i. all_within (presents s v) m b q (found_within a (further true) m t i)) f.2),
+    (
+      f.0,
+      refl,
+      fewer (due (around b.scopes)) (due (around a.scopes)) a b failed f.0
+          (as_many (due (around b.scopes)) (due (around a.scopes)) (ap (λ l. due (around l)) (same_scopes s v m b q) ∙
+          ap (λ l. due l) (around_member (is_aligned a.rules) (freedoms a.rules) (any_bitmap a.rules) (any_order a.rules) true a.place a.scopes
+          (state_of m) t.taken))) (λ i. all_within (presents s v) m b q (found_within a (further true) m t i)) f.2,
+    ),
   );
-  last = λ a b failed c t f. one_found (further false) (due b.scopes) (due (around a.scopes)) a b failed c t (as_many (due b.scopes) (due (around a.scopes)) (last_owed (is_aligned a.rules) (freedoms a.rules) (any_bitmap a.rules) (any_order a.rules) a.place a.scopes (state_of b) t.taken)) f;
+  last = λ a b failed c t f. one_found (further false) (due b.scopes) (due (around a.scopes)) a b failed c t
+      (as_many (due b.scopes) (due (around a.scopes)) (last_owed (is_aligned a.rules) (freedoms a.rules) (any_bitmap a.rules) (any_order a.rules) a.place a.scopes (state_of b) t.taken)) f;
   asked = held_asked;
   stuck = λ s lawful a b failed t h c d f g v vs e i q. stuck_by s lawful a b failed t h f.0 f.2 d (subst (λ (x : Held). Finds x (further true) d) f.1 g) v vs e i q;
 }

@@ -30,9 +30,19 @@ nothing_taken : (a : Held) (s : State) (l : ℕ) → IsReady a → s ≡ state_o
 nothing_taken a s l h e f =
     ap (λ (t : State). held_at a t l a.stands) e
     ∙ (ap (λ (t : ℕ). held_at a (state_of a) t a.stands) f
-    ∙ ap (λ (t : Option ℕ). let x : Held = record { place = a.place; scopes = a.scopes; levels = a.levels; most = a.most; failed = t; rules = a.rules; stands = a.stands } in x) (sym (not_some a.failed h)))
+    ∙ ap (λ (t : Option ℕ). let x : Held = record {
+      place = a.place;
+      scopes = a.scopes;
+      levels = a.levels;
+      most = a.most;
+      failed = t;
+      rules =
+          a.rules;
+      stands = a.stands;
+    } in x) (sym (not_some a.failed h)))
 
-pub both_found : (rs : List Record) (a : Held) (s : State) (l : ℕ) → IsReady a → Chain (Takes (is_aligned a.rules) (freedoms a.rules)) rs (state_of a) s → Chain (Level a.most) rs a.levels l → (m : List Storage) × Chain Finds rs a (held_at a s l m)
+pub both_found : (rs : List Record) (a : Held) (s : State) (l : ℕ) → IsReady a →
+    Chain (Takes (is_aligned a.rules) (freedoms a.rules)) rs (state_of a) s → Chain (Level a.most) rs a.levels l → (m : List Storage) × Chain Finds rs a (held_at a s l m)
 both_found [] a s l h c d = (a.stands, nothing_taken a s l h c d)
 both_found (r ∷ rs) a s l h c d =
     let next : Held = held_at a c.0 d.0 (kept a r c.0.0 c.0.1) in

@@ -35,14 +35,16 @@ module _ (free : Per.Freedom → Bool) (al : Bool) where
   told_of b xs all e = bitmaps.told_of free (λ os. Per.counted_octets al os) (λ os ps. counted_octets_alike free al os ps) b xs all e
 
   -- ---- texts in sequence
-  append_join : (xs : Forms) (ys : List Per.BitForm) → (start mid rest : Position) → Front free (joined (present_ones xs)) start mid → Front free (joined ys) mid rest → Front free (joined (present_ones xs ++ ys)) start rest
+  append_join : (xs : Forms) (ys : List Per.BitForm) → (start mid rest : Position) → Front free (joined (present_ones xs)) start mid →
+      Front free (joined ys) mid rest → Front free (joined (present_ones xs ++ ys)) start rest
   append_join [] ys start mid rest f g = subst (λ l. Front free (joined ys) l rest) (of_nothing free start mid f) g
   append_join (None ∷ xs) ys start mid rest f g = append_join xs ys start mid rest f g
   append_join (Some x ∷ xs) ys start mid rest f g =
       let q = split free x (joined (present_ones xs)) start mid f in
       join free x (joined (present_ones xs ++ ys)) start q.0 rest q.1 (append_join xs ys q.0 mid rest q.2 g)
 
-  append_split : (xs : Forms) (ys : List Per.BitForm) → (start rest : Position) → Front free (joined (present_ones xs ++ ys)) start rest → (mid : Position) × Front free (joined (present_ones xs)) start mid × Front free (joined ys) mid rest
+  append_split : (xs : Forms) (ys : List Per.BitForm) → (start rest : Position) → Front free (joined (present_ones xs ++ ys)) start rest →
+      (mid : Position) × Front free (joined (present_ones xs)) start mid × Front free (joined ys) mid rest
   append_split [] ys start rest f = (start, nothing_front free start, f)
   append_split (None ∷ xs) ys start rest f = append_split xs ys start rest f
   append_split (Some x ∷ xs) ys start rest f =
@@ -51,12 +53,14 @@ module _ (free : Per.Freedom → Bool) (al : Bool) where
       (r.0, join free x (joined (present_ones xs)) start q.0 r.0 q.1 r.1, r.2)
 
   -- ---- a bitmap with a bit set, or none
-  shown_in : (t : Bool) (x : Per.BitForm) (start rest : Position) → (t ≡ true) ⊎ IsTrue (free Per.empty_bitmap) → Front free x start rest → Front free (cond t x (varied Per.empty_bitmap false (λ e. only_if e x))) start rest
+  shown_in : (t : Bool) (x : Per.BitForm) (start rest : Position) → (t ≡ true) ⊎ IsTrue (free Per.empty_bitmap) → Front free x start rest →
+      Front free (cond t x (varied Per.empty_bitmap false (λ e. only_if e x))) start rest
   shown_in true x start rest d f = f
   shown_in false x start rest (inl e) f = cc
   shown_in false x start rest (inr d) f = varied_in free {c = Per.empty_bitmap} (λ e. only_if e x) true (inr d) start rest f
 
-  shown_out : (t : Bool) (x : Per.BitForm) (start rest : Position) → Front free (cond t x (varied Per.empty_bitmap false (λ e. only_if e x))) start rest → ((t ≡ true) ⊎ IsTrue (free Per.empty_bitmap)) × Front free x start rest
+  shown_out : (t : Bool) (x : Per.BitForm) (start rest : Position) →
+      Front free (cond t x (varied Per.empty_bitmap false (λ e. only_if e x))) start rest → ((t ≡ true) ⊎ IsTrue (free Per.empty_bitmap)) × Front free x start rest
   unfolding Reads
   shown_out true x start rest f = (inl refl, f)
   shown_out false x start rest f =
@@ -76,17 +80,25 @@ module _ (free : Per.Freedom → Bool) (al : Bool) where
   Without ms y xs start rest = (mid : Position) × (is_any_present xs ≡ false) × Front free (exactly (false ∷ ms)) start mid × Front free y mid rest
 
   abbrev With : List Bool → Per.BitForm → Forms → Position → Position → Type 0
-  With ms y xs start rest = (us : Octets) × (bs : List Bool) × (o1 : Position) × (o2 : Position) × (o3 : Position) × (o4 : Position) × (flags xs ≡ first_bits (length xs) bs) × (flags (unknown_forms al us) ≡ drop (length xs) bs) × ((is_any_set bs ≡ true) ⊎ IsTrue (free Per.empty_bitmap)) × Front free (exactly (true ∷ ms)) start o1 × Front free y o1 o2 × Front free (bitmap bs) o2 o3 × Front free (joined (present_ones xs)) o3 o4 × Front free (joined (present_ones (unknown_forms al us))) o4 rest
+  With ms y xs start rest = (us : Octets) × (bs : List Bool) × (o1 : Position) × (o2 : Position) × (o3 : Position) × (o4 : Position) ×
+      (flags xs ≡ first_bits (length xs) bs) × (flags (unknown_forms al us) ≡ drop (length xs) bs) ×
+      ((is_any_set bs ≡ true) ⊎ IsTrue (free Per.empty_bitmap)) × Front free (exactly (true ∷ ms)) start o1 × Front free y o1 o2 ×
+      Front free (bitmap bs) o2 o3 × Front free (joined (present_ones xs)) o3 o4 × Front free (joined (present_ones (unknown_forms al us))) o4 rest
 
   -- ---- the whole
   module _ (ms : List Bool) (y : Per.BitForm) (other : IsTrue (free Per.other_bitmap)) where
     -- no bitmap
-    without_in : (xs : Forms) → is_any_present xs ≡ false → (start mid rest : Position) → Front free (exactly (false ∷ ms)) start mid → Front free y mid rest → Front free (Per.sequence_form al true ms y xs) start rest
+    without_in : (xs : Forms) → is_any_present xs ≡ false → (start mid rest : Position) → Front free (exactly (false ∷ ms)) start mid →
+        Front free y mid rest → Front free (Per.sequence_form al true ms y xs) start rest
     unfolding Per.sequence_form Per.bitmapped
-    without_in xs e start mid rest f g = varied_in free {c = Per.other_bitmap} (λ b. Per.bitmapped al ms y xs b) None (inr other) start rest (if_in free (not (is_any_present xs)) (both (exactly (false ∷ ms)) y) start rest (ap not e) (join free (exactly (false ∷ ms)) y start mid rest f g))
+    without_in xs e start mid rest f g = varied_in free {c = Per.other_bitmap} (λ b. Per.bitmapped al ms y xs b) None (inr other) start rest
+        (if_in free (not (is_any_present xs)) (both (exactly (false ∷ ms)) y) start rest (ap not e) (join free (exactly (false ∷ ms)) y start mid rest f g))
 
     -- with one
-    with_in : (xs : Forms) → (us : Octets) (bs : List Bool) → flags xs ≡ first_bits (length xs) bs → flags (unknown_forms al us) ≡ drop (length xs) bs → (is_any_set bs ≡ true) ⊎ IsTrue (free Per.empty_bitmap) → (start o1 o2 o3 o4 rest : Position) → Front free (exactly (true ∷ ms)) start o1 → Front free y o1 o2 → Front free (bitmap bs) o2 o3 → Front free (joined (present_ones xs)) o3 o4 → Front free (joined (present_ones (unknown_forms al us))) o4 rest → Front free (Per.sequence_form al true ms y xs) start rest
+    with_in : (xs : Forms) → (us : Octets) (bs : List Bool) → flags xs ≡ first_bits (length xs) bs →
+        flags (unknown_forms al us) ≡ drop (length xs) bs → (is_any_set bs ≡ true) ⊎ IsTrue (free Per.empty_bitmap) →
+        (start o1 o2 o3 o4 rest : Position) → Front free (exactly (true ∷ ms)) start o1 → Front free y o1 o2 → Front free (bitmap bs) o2 o3 →
+        Front free (joined (present_ones xs)) o3 o4 → Front free (joined (present_ones (unknown_forms al us))) o4 rest → Front free (Per.sequence_form al true ms y xs) start rest
     unfolding Per.sequence_form Per.bitmapped Per.with_additions Per.additions
     with_in xs us bs e e' t start o1 o2 o3 o4 rest f g i j k =
         let c = covers (λ os. Per.counted_octets al os) xs us bs e e' in
@@ -98,13 +110,17 @@ module _ (free : Per.Freedom → Bool) (al : Bool) where
         let a3 = join free y (both (shown all) (joined (present_ones all))) o1 o2 rest g a2 in
         let a4 = join free (exactly (true ∷ ms)) (both y (both (shown all) (joined (present_ones all)))) start o1 rest f a3 in
         let set : (is_any_present all ≡ true) ⊎ IsTrue (free Per.empty_bitmap) = as_any t (ap is_any_set (sym c.3) ∙ any_set all) in
-        varied_in free {c = Per.other_bitmap} (λ b. Per.bitmapped al ms y xs b) (Some c.0) (inr other) start rest (given_in free (covered_by (λ os. Per.counted_octets al os) c.0 xs) (λ l. cond (is_any_present l) (Per.with_additions al ms y l) (varied Per.empty_bitmap false (λ e. only_if e (Per.with_additions al ms y l)))) all c.2 start rest (shown_in (is_any_present all) (Per.with_additions al ms y all) start rest set a4))
+        varied_in free {c = Per.other_bitmap} (λ b. Per.bitmapped al ms y xs b) (Some c.0) (inr other) start rest
+        (given_in free (covered_by (λ os. Per.counted_octets al os) c.0 xs)
+        (λ l. cond (is_any_present l) (Per.with_additions al ms y l)
+        (varied Per.empty_bitmap false (λ e. only_if e (Per.with_additions al ms y l)))) all c.2 start rest (shown_in (is_any_present all) (Per.with_additions al ms y all) start rest set a4))
       where
         as_any : {all : Bool} {bs : Bool} → (bs ≡ true) ⊎ IsTrue (free Per.empty_bitmap) → bs ≡ all → (all ≡ true) ⊎ IsTrue (free Per.empty_bitmap)
         as_any (inl e) h = inl (sym h ∙ e)
         as_any (inr e) h = inr e
 
-    with_out : (xs : Forms) → (all : Forms) → Told xs all → (is_any_present all ≡ true) ⊎ IsTrue (free Per.empty_bitmap) → (start rest : Position) → Front free (Per.with_additions al ms y all) start rest → With ms y xs start rest
+    with_out : (xs : Forms) → (all : Forms) → Told xs all → (is_any_present all ≡ true) ⊎ IsTrue (free Per.empty_bitmap) → (start rest : Position) →
+        Front free (Per.with_additions al ms y all) start rest → With ms y xs start rest
     unfolding Per.with_additions Per.additions
     with_out xs all t set start rest f =
         let ys : List Per.BitForm = present_ones (unknown_forms al t.0) in
@@ -125,7 +141,8 @@ module _ (free : Per.Freedom → Bool) (al : Bool) where
         let q = split free (exactly (false ∷ ms)) y start rest t.1 in
         inl (q.0, adding.no_any (is_any_present xs) t.0, q.1, q.2)
     by_bitmap xs (Some b) start rest f =
-        let t = given_out free (covered_by (λ os. Per.counted_octets al os) b xs) (λ l. cond (is_any_present l) (Per.with_additions al ms y l) (varied Per.empty_bitmap false (λ e. only_if e (Per.with_additions al ms y l)))) start rest f in
+        let t = given_out free (covered_by (λ os. Per.counted_octets al os) b xs)
+        (λ l. cond (is_any_present l) (Per.with_additions al ms y l) (varied Per.empty_bitmap false (λ e. only_if e (Per.with_additions al ms y l)))) start rest f in
         let q = shown_out (is_any_present t.0) (Per.with_additions al ms y t.0) start rest t.2 in
         inr (with_out xs t.0 (told_of b xs t.0 t.1) q.0 start rest q.1)
 
@@ -156,7 +173,9 @@ module _ (free : Per.Freedom → Bool) (al : Bool) where
   Extensible adds qs ms y = given (Per.addition_forms al adds qs) (Per.sequence_form al true ms y)
 
   module _ (other : IsTrue (free Per.other_bitmap)) (adds : Components) (ha : EachFinds al free adds) (qs : Parts) where
-    extensible_in : (ms : List Bool) (y : Per.BitForm) → (x : Option Bool) (more : List Bool) (start mid o2 : Position) (k : List Scope) (b : State) → is_some x ≡ true → Front free (exactly (preamble_bits x (ms ++ more))) start mid → Front free y mid o2 → Chain (Step free al) (additions_begin (component_count adds) ∷ added_records adds qs) (o2, components x more ∷ k) b → Front free (Extensible adds qs ms y) start b.0 × (b.1 ≡ k)
+    extensible_in : (ms : List Bool) (y : Per.BitForm) → (x : Option Bool) (more : List Bool) (start mid o2 : Position) (k : List Scope) (b : State) →
+        is_some x ≡ true → Front free (exactly (preamble_bits x (ms ++ more))) start mid → Front free y mid o2 →
+        Chain (Step free al) (additions_begin (component_count adds) ∷ added_records adds qs) (o2, components x more ∷ k) b → Front free (Extensible adds qs ms y) start b.0 × (b.1 ≡ k)
     extensible_in ms y None more start mid o2 k b e f g c = cc
     extensible_in ms y (Some true) (z ∷ more) start mid o2 k b e f g c = absurd c.1
     extensible_in ms y (Some false) (z ∷ more) start mid o2 k b e f g c = absurd c.1
@@ -180,10 +199,15 @@ module _ (free : Per.Freedom → Bool) (al : Bool) where
         let l : length r.0 ≡ n = counted_flags r.0 n bs r.3 in
         let e1 : flags r.0 ≡ first_bits (length r.0) bs = r.3 ∙ ap (λ i. first_bits i bs) (sym l) in
         let e2 : flags (unknown_forms al r.5.0) ≡ drop (length r.0) bs = r.5.1 ∙ ap (λ i. drop i bs) (sym l) in
-        let f' : Front free (exactly (true ∷ ms)) start mid = subst (λ l. Front free (exactly (true ∷ l)) start mid) (append-nil ms) f in
-        (given_in free (Per.addition_forms al adds qs) (Per.sequence_form al true ms y) r.0 r.2 start b.0 (with_in ms y other r.0 r.5.0 bs e1 e2 c.1.1 start mid o2 m.0 r.1 b.0 f' g c.1.2 r.4 r.5.2), r.6)
+        let f' : Front free (exactly (true ∷ ms)) start mid = subst (λ l. Front free (exactly (true ∷ l)) start mid) (append-nil ms) f in (
+          given_in free (Per.addition_forms al adds qs) (Per.sequence_form al true ms y) r.0 r.2 start b.0
+              (with_in ms y other r.0 r.5.0 bs e1 e2 c.1.1 start mid o2 m.0 r.1 b.0 f' g c.1.2 r.4 r.5.2),
+          r.6,
+        )
 
-    pub extended_in : (cs : Components) → EachFinds al free cs → (ps : Parts) (a m b : State) → Begins free true (optional_count cs) a m → Chain (Step free al) (root_records cs ps (additions_begin (component_count adds) ∷ added_records adds qs)) m b → Found free (Extensible adds qs (presence_bits cs ps) (Per.component_forms al cs ps)) a b
+    pub extended_in : (cs : Components) → EachFinds al free cs → (ps : Parts) (a m b : State) → Begins free true (optional_count cs) a m →
+        Chain (Step free al) (root_records cs ps (additions_begin (component_count adds) ∷ added_records adds qs)) m b →
+        Found free (Extensible adds qs (presence_bits cs ps) (Per.component_forms al cs ps)) a b
     extended_in cs h ps a m b t c =
         let o = begun_in free al true cs h ps (additions_begin (component_count adds) ∷ added_records adds qs) a m b t c in
         extensible_in (presence_bits cs ps) (Per.component_forms al cs ps) o.0 o.1 a.0 o.2 o.3 a.1 b o.4 o.5 o.6 o.7
@@ -191,12 +215,15 @@ module _ (free : Per.Freedom → Bool) (al : Bool) where
   module _ (other : IsTrue (free Per.other_bitmap)) (adds : Components) (ha : EachShows al free adds) (qs : Parts) where
     -- what is held at the extension bit, with additions like these
     abbrev AtExtensionBit : List Bool → Per.BitForm → Position → List Scope → State → Type 0
-    AtExtensionBit ms y start k b = (ss : Parts) × (x : Option Bool) × (mid : Position) × (o2 : Position) × LikeParts adds qs ss × (is_some x ≡ true) × Front free (exactly (preamble_bits x ms)) start mid × Front free y mid o2 × Chain (Step free al) (additions_begin (component_count adds) ∷ added_records adds ss) (o2, components x [] ∷ k) b
+    AtExtensionBit ms y start k b = (ss : Parts) × (x : Option Bool) × (mid : Position) × (o2 : Position) × LikeParts adds qs ss ×
+        (is_some x ≡ true) × Front free (exactly (preamble_bits x ms)) start mid × Front free y mid o2 ×
+        Chain (Step free al) (additions_begin (component_count adds) ∷ added_records adds ss) (o2, components x [] ∷ k) b
 
     no_unknown : (start : Position) → Skips al free [] start start
     no_unknown start = ([], refl, nothing_front free start)
 
-    at_extension_bit : (ms : List Bool) (y : Per.BitForm) (xs : Forms) → Per.addition_forms al adds qs ≡ Some xs → (start : Position) (k : List Scope) (b : State) → b.1 ≡ k → Without ms y xs start b.0 ⊎ With ms y xs start b.0 → AtExtensionBit ms y start k b
+    at_extension_bit : (ms : List Bool) (y : Per.BitForm) (xs : Forms) → Per.addition_forms al adds qs ≡ Some xs →
+        (start : Position) (k : List Scope) (b : State) → b.1 ≡ k → Without ms y xs start b.0 ⊎ With ms y xs start b.0 → AtExtensionBit ms y start k b
     at_extension_bit ms y xs e start k b scopes (inl w) =
         let n : ℕ = component_count adds in
         let l : length xs ≡ n = additions_long adds qs xs e in
@@ -220,7 +247,9 @@ module _ (free : Per.Freedom → Bool) (al : Bool) where
         at_extension_bit ms y t.0 t.1 start k b scopes (read_out ms y other t.0 start b.0 t.2)
 
     -- ---- SEQUENCE and SET with an extension bit
-    pub extended_out : (cs : Components) → EachShows al free cs → (ps : Parts) (a b : State) → Found free (Extensible adds qs (presence_bits cs ps) (Per.component_forms al cs ps)) a b → (ss : Parts) × LikeParts adds qs ss × Closed free al true cs ps (additions_begin (component_count adds) ∷ added_records adds ss) a b
+    pub extended_out : (cs : Components) → EachShows al free cs → (ps : Parts) (a b : State) →
+        Found free (Extensible adds qs (presence_bits cs ps) (Per.component_forms al cs ps)) a b → (ss : Parts) × LikeParts adds qs ss ×
+        Closed free al true cs ps (additions_begin (component_count adds) ∷ added_records adds ss) a b
     extended_out cs h ps a b f =
         let t = extensible_out (presence_bits cs ps) (Per.component_forms al cs ps) a.0 a.1 b f.0 f.1 in
         (t.0, t.4, begun_out free al true cs h ps (additions_begin (component_count adds) ∷ added_records adds t.0) a b t.1 t.2 t.3 t.5 t.6 t.7 t.8)

@@ -36,7 +36,8 @@ LikeChosen others v w = (same v w ≡ true) × (are_no_bags others ≡ true → 
 
 module _ (free : Per.Freedom → Bool) (al : Bool) where
   -- ---- the value of an alternative, and its end
-  root_in : (others : Alternatives) → EachFinds al free others → (i : ℕ) (v : Value) (a : Position) (k : List Scope) (b : State) → Chain (Step free al) (chosen_records others i v) (a, alternative ∷ k) b → Front free (Per.alternative_form al others i v) a b.0 × (b.1 ≡ k)
+  root_in : (others : Alternatives) → EachFinds al free others → (i : ℕ) (v : Value) (a : Position) (k : List Scope) (b : State) →
+      Chain (Step free al) (chosen_records others i v) (a, alternative ∷ k) b → Front free (Per.alternative_form al others i v) a b.0 × (b.1 ≡ k)
   unfolding chosen_records Per.alternative_form
   root_in no_alternative h i v a k b c = absurd c.1
   root_in (other t s others) h (suc i) v a k b c = root_in others h.1 i v a k b c
@@ -53,7 +54,8 @@ module _ (free : Per.Freedom → Bool) (al : Bool) where
   abbrev Out : Alternatives → ℕ → Value → State → State → Type 0
   Out others i v m b = (i < length (alternative_tags others)) × (w : Value) × LikeChosen others v w × Chain (Step free al) (chosen_records others i w) m b
 
-  root_out : (others : Alternatives) → EachShows al free others → (i : ℕ) (v : Value) (a : Position) (k : List Scope) (b : State) → Front free (Per.alternative_form al others i v) a b.0 → b.1 ≡ k → Out others i v (a, alternative ∷ k) b
+  root_out : (others : Alternatives) → EachShows al free others → (i : ℕ) (v : Value) (a : Position) (k : List Scope) (b : State) →
+      Front free (Per.alternative_form al others i v) a b.0 → b.1 ≡ k → Out others i v (a, alternative ∷ k) b
   unfolding chosen_records Per.alternative_form
   root_out no_alternative h i v a k b f e = absurd (of_refused free a b.0 f)
   root_out (other t s others) h (suc i) v a k b f e = let r = root_out others h.1 i v a k b f e in (omega (arith, r.0), r.1, (r.2.0, λ n. r.2.1 ((and_parts _ _ n).1)), r.3)
@@ -63,7 +65,9 @@ module _ (free : Per.Freedom → Bool) (al : Bool) where
       let w = h.0 v here there (f, refl) in
       (omega arith, w.0, (w.1.0, λ n. w.1.1 ((and_parts _ _ n).0)), chain_append (Step free al) (presents s w.0) (ends ∷ []) here there b w.2 (b, state_same b (b.0, k) refl e, refl))
 
-  added_in : (others : Alternatives) → EachFinds al free others → (i : ℕ) (v : Value) (os : List ℕ) (rest : Position) (k : List Scope) (b : State) → Chain (Step free al) (chosen_records others i v) ((0, octet_bits os), open_type rest ∷ k) b → (left : Position) × Front free (Per.alternative_form al others i v) (0, octet_bits os) left × Closes free left rest k b
+  added_in : (others : Alternatives) → EachFinds al free others → (i : ℕ) (v : Value) (os : List ℕ) (rest : Position) (k : List Scope) (b : State) →
+      Chain (Step free al) (chosen_records others i v) ((0, octet_bits os), open_type rest ∷ k) b → (left : Position) ×
+      Front free (Per.alternative_form al others i v) (0, octet_bits os) left × Closes free left rest k b
   unfolding chosen_records Per.alternative_form
   added_in no_alternative h i v os rest k b c = absurd c.1
   added_in (other t s others) h (suc i) v os rest k b c = added_in others h.1 i v os rest k b c
@@ -75,7 +79,9 @@ module _ (free : Per.Freedom → Bool) (al : Bool) where
       let e : Closes free q.0.0 rest k l = subst (λ x. Ends al free q.0.0 x l) g.1 q.2.1 in
       (q.0.0, g.0, subst (λ x. Closes free q.0.0 rest k x) (sym q.2.2) e)
 
-  added_out : (others : Alternatives) → EachShows al free others → (i : ℕ) (v : Value) (os : List ℕ) (rest left : Position) (k : List Scope) (b : State) → Front free (Per.alternative_form al others i v) (0, octet_bits os) left → Closes free left rest k b → Out others i v ((0, octet_bits os), open_type rest ∷ k) b
+  added_out : (others : Alternatives) → EachShows al free others →
+      (i : ℕ) (v : Value) (os : List ℕ) (rest left : Position) (k : List Scope) (b : State) →
+      Front free (Per.alternative_form al others i v) (0, octet_bits os) left → Closes free left rest k b → Out others i v ((0, octet_bits os), open_type rest ∷ k) b
   unfolding chosen_records Per.alternative_form
   added_out no_alternative h i v os rest left k b f c = absurd (of_refused free (0, octet_bits os) left f)
   added_out (other t s others) h (suc i) v os rest left k b f c = let r = added_out others h.1 i v os rest left k b f c in (omega (arith, r.0), r.1, (r.2.0, λ n. r.2.1 ((and_parts _ _ n).1)), r.3)
@@ -100,7 +106,8 @@ module _ (free : Per.Freedom → Bool) (al : Bool) where
   choice_finds roots e adds h k (chosen false i v) a b c =
       let n = tag_count roots in
       let m : State = c.0 in
-      let f : Front free (both (Per.extension_bit_of e false) (Per.constrained al (alternative_count roots - 1) i)) a.0 m.0 = subst (λ n. Front free (both (Per.extension_bit_of e false) (Per.constrained al (n - 1) i)) a.0 m.0) n c.1.1 in
+      let f : Front free (both (Per.extension_bit_of e false) (Per.constrained al (alternative_count roots - 1) i)) a.0 m.0 =
+      subst (λ n. Front free (both (Per.extension_bit_of e false) (Per.constrained al (n - 1) i)) a.0 m.0) n c.1.1 in
       let r = root_in roots h i v m.0 a.1 b (from_state free al (chosen_records roots i v) m b m.0 (alternative ∷ a.1) (state_same m (m.0, alternative ∷ a.1) refl c.1.2) c.2) in
       (apart_in (Per.extension_bit_of e false) (Per.constrained al (alternative_count roots - 1) i) (Per.alternative_form al roots i v) a.0 m.0 b.0 f r.0, r.1)
   choice_finds roots true adds h k (chosen true i v) a b c =
@@ -118,13 +125,19 @@ module _ (free : Per.Freedom → Bool) (al : Bool) where
   choice_shows roots e adds h k (chosen false i v) a b f =
       let n = tag_count roots in
       let q = apart_out (Per.extension_bit_of e false) (Per.constrained al (alternative_count roots - 1) i) (Per.alternative_form al roots i v) a.0 b.0 f.0 in
-      let r = root_out roots h i v q.0 a.1 b q.2 f.1 in
-      (chosen false i r.1, (chosen_same false i v r.1 r.2.0, λ n. ap (λ x. chosen false i x) (r.2.1 ((and_parts _ _ n).0))), ((q.0, alternative ∷ a.1), (lt-ltb _ _ r.0, subst (λ n. Front free (both (Per.extension_bit_of e false) (Per.constrained al (n - 1) i)) a.0 q.0) (sym n) q.1, refl), r.3))
+      let r = root_out roots h i v q.0 a.1 b q.2 f.1 in (
+        chosen false i r.1,
+        (chosen_same false i v r.1 r.2.0, λ n. ap (λ x. chosen false i x) (r.2.1 ((and_parts _ _ n).0))),
+        ((q.0, alternative ∷ a.1), (lt-ltb _ _ r.0, subst (λ n. Front free (both (Per.extension_bit_of e false) (Per.constrained al (n - 1) i)) a.0 q.0) (sym n) q.1, refl), r.3),
+      )
   choice_shows roots true adds h k (chosen true i v) a b f =
       let q = apart_out (exactly (true ∷ [])) (Per.normally_small al i) (Per.open_type al (Per.alternative_form al adds i v)) a.0 b.0 f.0 in
       let z = open_out free al (Per.alternative_form al adds i v) q.0 b.0 q.2 in
       let c : Closes free z.1 b.0 a.1 b = subst (λ x. Closes free z.1 b.0 a.1 x) (sym (state_same b (b.0, a.1) refl f.1)) (z.4 a.1) in
-      let r = added_out adds k i v z.0 b.0 z.1 a.1 b z.3 c in
-      (chosen true i r.1, (chosen_same true i v r.1 r.2.0, λ n. ap (λ x. chosen true i x) (r.2.1 ((and_parts _ _ n).1))), (((0, octet_bits z.0), open_type b.0 ∷ a.1), (refl, lt-ltb _ _ r.0, q.0, q.1, (z.0, b.0, z.2, refl)), r.3))
+      let r = added_out adds k i v z.0 b.0 z.1 a.1 b z.3 c in (
+        chosen true i r.1,
+        (chosen_same true i v r.1 r.2.0, λ n. ap (λ x. chosen true i x) (r.2.1 ((and_parts _ _ n).1))),
+        (((0, octet_bits z.0), open_type b.0 ∷ a.1), (refl, lt-ltb _ _ r.0, q.0, q.1, (z.0, b.0, z.2, refl)), r.3),
+      )
   choice_shows roots false adds h k (chosen true i v) a b f = absurd (of_refused free a.0 b.0 f.0)
   choice_shows roots e adds h k v a b f = absurd (of_refused free a.0 b.0 f.0)

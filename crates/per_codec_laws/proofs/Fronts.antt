@@ -1,8 +1,12 @@
 -- Compositions of forms at the start of the bits, and what is noted after a component.
-use Rattle.std.proofs.Common.{◌≡◌, ◌⊎◌, inl, inr, ◌↔◌, ℕ, ◌+◌, Bool, true, false, cond, IsTrue, List, [], ◌∷◌, ◌++◌, length, Option, Some, None, refl, ap, sym, ◌∙◌, subst, append_assoc, length-append, arith}
+use Rattle.std.proofs.Common.{◌≡◌, ◌⊎◌, inl, inr, ◌↔◌, ℕ, ◌+◌, ◌<◌, ltb, Bool, true, false, cond, IsTrue, List, [], ◌∷◌}
+use Rattle.std.proofs.Common.{◌++◌, length, Option, Some, None, refl, ap, sym, ◌∙◌, subst, append_assoc, length-append}
+use Rattle.std.proofs.Common.{arith}
+use Rattle.std.proofs.lemmas.Bool.{ltb-true}
 use Rattle.asn1_model.specs.Value.{Value}
 use Rattle.asn1_model.specs.Schema.{Presence, Schema}
 use Rattle.asn1_model.specs.Normal.{is_at_default, is_group_left_out}
+use Rattle.asn1_model.specs.Numbers.{binary}
 use Rattle.asn1_model.specs.Form.{exactly, refused, both, varied, Reads, only_if, given}
 use Rattle.asn1_model.specs.Per
 use Rattle.asn1_schema_laws.specs.Records.{Record, mismatch}
@@ -10,7 +14,7 @@ use Rattle.asn1_schema_laws.specs.Presents.{presents}
 use Rattle.asn1_schema_laws.specs.Chains.{Chain}
 use Rattle.asn1_schema_laws.proofs.Chains.{chain_split, chain_append}
 use Rattle.per_codec_laws.specs.Takes.{Position, State, Scope, Front, Found, Takes}
-use Rattle.per_codec_laws.specs.Ties.{Bridges}
+use Rattle.per_codec_laws.specs.Laws.{Bridges}
 use Rattle.asn1_schema_reading_laws.proofs.Alike.{Like, like_itself, noted_by, noted_same}
 use Rattle.per_codec_laws.proofs.Next.{place_same, state_same}
 
@@ -72,11 +76,13 @@ module _ (free : Per.Freedom → Bool) where
         moved = omega arith;
       }
 
-  pub varied_in : {c : Per.Freedom} {d : Per.Detail c} (f : Per.Detail c → Per.BitForm) (e : Per.Detail c) → (e ≡ d) ⊎ IsTrue (free c) → (a b : Position) → Front free (f e) a b → Front free (varied c d f) a b
+  pub varied_in : {c : Per.Freedom} {d : Per.Detail c} (f : Per.Detail c → Per.BitForm) (e : Per.Detail c) → (e ≡ d) ⊎ IsTrue (free c) →
+      (a b : Position) → Front free (f e) a b → Front free (varied c d f) a b
   unfolding Reads
   varied_in f e t a b x = record { text = x.text; has_form = (e, t, x.has_form); in_front = x.in_front; moved = x.moved }
 
-  pub varied_out : {c : Per.Freedom} {d : Per.Detail c} (f : Per.Detail c → Per.BitForm) (a b : Position) → Front free (varied c d f) a b → (e : Per.Detail c) × ((e ≡ d) ⊎ IsTrue (free c)) × Front free (f e) a b
+  pub varied_out : {c : Per.Freedom} {d : Per.Detail c} (f : Per.Detail c → Per.BitForm) (a b : Position) → Front free (varied c d f) a b →
+      (e : Per.Detail c) × ((e ≡ d) ⊎ IsTrue (free c)) × Front free (f e) a b
   unfolding Reads
   varied_out f a b x = let r = x.has_form in (r.0, r.1, record { text = x.text; has_form = r.2; in_front = x.in_front; moved = x.moved })
 
@@ -95,6 +101,22 @@ module _ (free : Per.Freedom → Bool) where
   if_in true x a b e f = f
   if_in false x a b e f = cc
 
+  -- a last length is below 16384
+  abbrev last_form : Bool → ℕ → Per.BitForm
+  last_form long n = cond long (only_if (ltb n 16384) (exactly (true ∷ false ∷ binary 14 n))) (only_if (ltb n 128) (exactly (false ∷ binary 7 n)))
+
+  last_bound : (long : Bool) (n : ℕ) (a b : Position) → Front free (last_form long n) a b → n < 16384
+  last_bound true n a b f = ltb-true n 16384 (if_out (ltb n 16384) _ a b f).0
+  last_bound false n a b f = let l = ltb-true n 128 (if_out (ltb n 128) _ a b f).0 in omega arith
+
+  pub short_bound : (al : Bool) (n : ℕ) (a b : Position) → Front free (Per.short_length al n) a b → n < 16384
+  unfolding Per.short_length Per.at_octet
+  short_bound false n a b f = let v = varied_out {c = Per.two_octet_length} (λ long. last_form long n) a b f in last_bound v.0 n a b v.2
+  short_bound true n a b f =
+      let s = split _ _ a b f in
+      let v = varied_out {c = Per.two_octet_length} (λ long. last_form long n) s.0 b s.2 in
+      last_bound v.0 n s.0 b v.2
+
   -- what only a freedom allows
   pub let_through : (c : Per.Freedom) (e : Bool) (x : Per.BitForm) (p : ℕ) (w : List Bool) → ((e ≡ false) ⊎ IsTrue (free c)) → Reads free (only_if e x) p w → IsTrue (free c) × Reads free x p w
   unfolding Reads
@@ -107,7 +129,8 @@ module _ (free : Per.Freedom → Bool) where
     Step a r b = Takes al free a r b
 
     -- ---- records
-    pub single : (x : Per.BitForm) (r : Record) → ((a b : State) → Takes al free a r b → Found free x a b) → ((a b : State) → Found free x a b → Takes al free a r b) → (a b : State) → Chain Step (r ∷ []) a b ↔ Found free x a b
+    pub single : (x : Per.BitForm) (r : Record) → ((a b : State) → Takes al free a r b → Found free x a b) →
+        ((a b : State) → Found free x a b → Takes al free a r b) → (a b : State) → Chain Step (r ∷ []) a b ↔ Found free x a b
     single x r f g a b = (λ c. f a b (subst (λ m. Takes al free a r m) (sym c.2) c.1), λ t. (b, g a b t, refl))
 
     pub none : (a b : State) → Chain Step (mismatch ∷ []) a b ↔ Found free refused a b
@@ -123,8 +146,10 @@ module _ (free : Per.Freedom → Bool) where
     -- ---- what is noted after a component
     pub noted_in : (d g : Bool) (x : Per.BitForm) (a m b : State) → Found free x a m → Chain Step (noted_by d g) m b → Found free (spelled_by d g x) a b
     unfolding Reads
-    noted_in true g x a m b f c = subst (λ s. Found free (spelled_by true g x) a s) (sym (c.2 ∙ c.1.1)) (record { text = f.0.text; has_form = (true, inr c.1.0, f.0.has_form); in_front = f.0.in_front; moved = f.0.moved }, f.1)
-    noted_in false true x a m b f c = subst (λ s. Found free (spelled_by false true x) a s) (sym (c.2 ∙ c.1.1)) (record { text = f.0.text; has_form = (true, inr c.1.0, f.0.has_form); in_front = f.0.in_front; moved = f.0.moved }, f.1)
+    noted_in true g x a m b f c = subst (λ s. Found free (spelled_by true g x) a s) (sym (c.2 ∙ c.1.1))
+        (record { text = f.0.text; has_form = (true, inr c.1.0, f.0.has_form); in_front = f.0.in_front; moved = f.0.moved }, f.1)
+    noted_in false true x a m b f c = subst (λ s. Found free (spelled_by false true x) a s) (sym (c.2 ∙ c.1.1))
+        (record { text = f.0.text; has_form = (true, inr c.1.0, f.0.has_form); in_front = f.0.in_front; moved = f.0.moved }, f.1)
     noted_in false false x a m b f c = subst (λ s. Found free x a s) (sym c) f
 
     pub noted_out : (d g : Bool) (x : Per.BitForm) (a b : State) → Found free (spelled_by d g x) a b → Found free x a b × Chain Step (noted_by d g) b b
@@ -145,7 +170,9 @@ module _ (free : Per.Freedom → Bool) where
         let q = chain_split Step (presents s v) (noted_by d g) a b c in
         noted_in d g (Per.form al s v) a q.0 b (h v a q.0 q.1) q.2
 
-    pub there_out : (s : Schema) → Shows al free s → (o : Presence) (v : Value) (a b : State) → Found free (spelled_by (is_at_default o s v) (is_group_left_out s v) (Per.form al s v)) a b → (w : Value) × Like s v w × Chain Step (presents s w ++ noted_by (is_at_default o s w) (is_group_left_out s w)) a b
+    pub there_out : (s : Schema) → Shows al free s → (o : Presence) (v : Value) (a b : State) →
+        Found free (spelled_by (is_at_default o s v) (is_group_left_out s v) (Per.form al s v)) a b → (w : Value) × Like s v w ×
+        Chain Step (presents s w ++ noted_by (is_at_default o s w) (is_group_left_out s w)) a b
     there_out s h o v a b f =
         let q = noted_out (is_at_default o s v) (is_group_left_out s v) (Per.form al s v) a b f in
         let r = h v a b q.0 in

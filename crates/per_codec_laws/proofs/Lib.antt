@@ -1,5 +1,6 @@
 pub mod Next
 pub mod Fronts
+pub mod Largest
 pub mod Lists
 pub mod Parts
 pub mod Opened

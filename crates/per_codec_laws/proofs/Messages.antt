@@ -16,7 +16,7 @@ use Rattle.asn1_schema_laws.specs.Chains.{Chain}
 use Rattle.asn1_schema_laws.proofs.OneValue.{one_value}
 use Rattle.asn1_schema_reading_laws.proofs.Fitting.{records_fit}
 use Rattle.per_codec_laws.specs.Takes.{Position, State, Front, completion, Takes}
-use Rattle.per_codec_laws.specs.Ties.{FindsIn, FoundFirst}
+use Rattle.per_codec_laws.specs.Laws.{FindsIn, FoundFirst}
 use Rattle.per_codec_laws.proofs.Next.{place_same, one_taken}
 use Rattle.per_codec_laws.proofs.Opened.{padded_in, padded_out}
 use Rattle.per_codec_laws.proofs.Whole.{records_read, forms_show}
@@ -34,16 +34,21 @@ behind_octets os k t u h e =
     let m : length (take k os) ≡ k = omega (arith, n, length-take k os) in
     let d = octets_long (take k os) in
     let l : length (octet_bits (take k os)) ≡ length t = omega arith in
-    let parts : octet_bits (take k os) ++ octet_bits (drop k os) ≡ octet_bits os = sym (flat_map-append (binary 8) (take k os) (drop k os)) ∙ ap octet_bits (take-append-drop k os) in
-    (m, sym (drop-append_seam t u) ∙ ap (drop (length t)) (e ∙ sym parts) ∙ ap (λ i. drop i (octet_bits (take k os) ++ octet_bits (drop k os))) (sym l) ∙ drop-append_seam (octet_bits (take k os)) (octet_bits (drop k os)))
+    let parts : octet_bits (take k os) ++ octet_bits (drop k os) ≡ octet_bits os = sym (flat_map-append (binary 8) (take k os) (drop k os)) ∙ ap octet_bits (take-append-drop k os) in (
+      m,
+      sym (drop-append_seam t u) ∙ ap (drop (length t)) (e ∙ sym parts) ∙
+          ap (λ i. drop i (octet_bits (take k os) ++ octet_bits (drop k os))) (sym l) ∙ drop-append_seam (octet_bits (take k os)) (octet_bits (drop k os)),
+    )
 
 module _ (al : Bool) (free : Per.Freedom → Bool) (other : IsTrue (free Per.other_bitmap)) where
   -- if a message comes first, records are found
-  pub message_out : (s : Schema) (v : Value) (w rest : List ℕ) → IsTrue (is_lawful s) → Reads free (Per.message al s v) 0 (octet_bits w) → (u : Value) × (same v u ≡ true) × FoundFirst al free s u w rest
+  pub message_out : (s : Schema) (v : Value) (w rest : List ℕ) → IsTrue (is_lawful s) → Reads free (Per.message al s v) 0 (octet_bits w) →
+      (u : Value) × (same v u ≡ true) × FoundFirst al free s u w rest
   unfolding Per.message Per.complete Reads
   message_out s v w rest l r =
       let z = padded_out free r.0 (octet_bits w) r.2 in
-      let all : r.0 ++ (z.0 ++ octet_bits rest) ≡ octet_bits (w ++ rest) = sym (append_assoc r.0 z.0 (octet_bits rest)) ∙ ap (λ l. l ++ octet_bits rest) z.1 ∙ sym (flat_map-append (binary 8) w rest) in
+      let all : r.0 ++ (z.0 ++ octet_bits rest) ≡ octet_bits (w ++ rest) = sym (append_assoc r.0 z.0 (octet_bits rest)) ∙
+      ap (λ l. l ++ octet_bits rest) z.1 ∙ sym (flat_map-append (binary 8) w rest) in
       let n : length r.0 + length z.0 ≡ 8 * length w = sym (length-append r.0 z.0) ∙ ap length z.1 ∙ octets_long w in
       let f : Front free (Per.form al s v) (0, octet_bits (w ++ rest)) (length r.0, z.0 ++ octet_bits rest) = record { text = r.0; has_form = r.1; in_front = all; moved = omega arith } in
       let t = forms_show al free s v ((0, octet_bits (w ++ rest)), []) ((length r.0, z.0 ++ octet_bits rest), []) other l (f, refl) in
@@ -53,7 +58,9 @@ module _ (al : Bool) (free : Per.Freedom → Bool) (other : IsTrue (free Per.oth
   fits s v a b c = records_fit _ _ (λ a b m. m) s v a b c
 
   -- one position follows the records of whichever value is found
-  pub padded : (s : Schema) (u v : Value) (w rest : List ℕ) (left : Position) → IsTrue (is_lawful s) → Reads free (Per.message al s v) 0 (octet_bits w) → Chain (Takes al free) (presents s u) ((0, octet_bits (w ++ rest)), []) (left, []) → Front free (completion left.0) left (8 * length w, octet_bits rest)
+  pub padded : (s : Schema) (u v : Value) (w rest : List ℕ) (left : Position) → IsTrue (is_lawful s) →
+      Reads free (Per.message al s v) 0 (octet_bits w) → Chain (Takes al free) (presents s u) ((0, octet_bits (w ++ rest)), []) (left, []) →
+      Front free (completion left.0) left (8 * length w, octet_bits rest)
   padded s u v w rest left l r c =
       let t = message_out s v w rest l r in
       let x = t.2 in
@@ -69,12 +76,15 @@ module _ (al : Bool) (free : Per.Freedom → Bool) (other : IsTrue (free Per.oth
         let left : Position = r.0 in
         let f : Front free (Per.form al s v) (0, octet_bits (w ++ rest)) left = (records_read al free s v ((0, octet_bits (w ++ rest)), []) (left, []) other order r.1).0 in
         let g = r.2 in
-        let both : (f.text ++ g.text) ++ octet_bits rest ≡ octet_bits w ++ octet_bits rest = append_assoc f.text g.text (octet_bits rest) ∙ ap (λ l. f.text ++ l) g.in_front ∙ f.in_front ∙ flat_map-append (binary 8) w rest in
+        let both : (f.text ++ g.text) ++ octet_bits rest ≡ octet_bits w ++ octet_bits rest = append_assoc f.text g.text (octet_bits rest) ∙
+        ap (λ l. f.text ++ l) g.in_front ∙ f.in_front ∙ flat_map-append (binary 8) w rest in
         let all : f.text ++ g.text ≡ octet_bits w = append_cancel_right (f.text ++ g.text) (octet_bits w) (octet_bits rest) both in
         (f.text, f.has_form, subst (λ l. Reads free (Per.padded f.text) 0 l) all (padded_in free f.text g.text left.0 f.moved g.has_form))
 
     -- a message ends at an octet boundary
-    pub ends_at_octet : (s : Schema) (v : Value) (os : List ℕ) (left after : Position) → Chain (Takes al free) (presents s v) ((0, octet_bits os), []) (left, []) → Front free (completion left.0) left after → (w : List ℕ) × (rest : List ℕ) × (w ++ rest ≡ os) × (after ≡ (8 * length w, octet_bits rest))
+    pub ends_at_octet : (s : Schema) (v : Value) (os : List ℕ) (left after : Position) →
+        Chain (Takes al free) (presents s v) ((0, octet_bits os), []) (left, []) → Front free (completion left.0) left after → (w : List ℕ) ×
+        (rest : List ℕ) × (w ++ rest ≡ os) × (after ≡ (8 * length w, octet_bits rest))
     unfolding Per.complete Reads
     ends_at_octet s v os left after c g =
         let f : Front free (Per.form al s v) (0, octet_bits os) left = (records_read al free s v ((0, octet_bits os), []) (left, []) other order c).0 in

@@ -1,5 +1,7 @@
 -- Among the records that answer the same question at most one is next.
-use Rattle.std.proofs.Common.{◌≡◌, inl, inr, ◌≤◌, ℕ, ℤ, zero, suc, ◌+◌, ◌-◌, ◌*◌, not, ltb, Bool, true, false, cond, List, [], ◌∷◌, ◌++◌, length, map, drop, Option, Some, None, refl, ap, sym, ◌∙◌, subst, arith}
+use Rattle.std.proofs.Common.{◌≡◌, inl, inr, ◌≤◌, ℕ, ℤ, zero, suc, ◌+◌, ◌-◌, ◌*◌, not, ltb, Bool, true, false, cond}
+use Rattle.std.proofs.Common.{List, [], ◌∷◌, ◌++◌, length, map, drop, Option, Some, None, refl, ap, sym, ◌∙◌, subst}
+use Rattle.std.proofs.Common.{arith}
 use Rattle.std.proofs.lemmas.List.{append_cancel_left}
 use Rattle.std.proofs.lemmas.Bool.{and_parts, leb-true}
 use Rattle.asn1_model.specs.Value.{truth, nothing, number, item, bit_list, octet_list, text, arcs}
@@ -10,16 +12,24 @@ use Rattle.std.specs.Prelude.{is_some}
 use Rattle.asn1_model.specs.Strings.{is_octet, is_identifier, identifier_octets}
 use Rattle.std.specs.List.{list_all}
 use Rattle.asn1_model.specs.Per
-use Rattle.asn1_schema_laws.specs.Records.{Record, flag, nil, whole, one_of, bits, octets, characters, identifier, list_begins, bag_begins, further, sequence_begins, set_begins, group_begins, presence_bit, is_default, is_empty, additions_begin, addition, addition_ends, choice_begins, ends, mismatch, question, told}
+use Rattle.asn1_schema_laws.specs.Records.{Record, flag, nil, whole, one_of, bits, octets, characters, identifier}
+use Rattle.asn1_schema_laws.specs.Records.{list_begins, bag_begins, further, sequence_begins, set_begins, group_begins}
+use Rattle.asn1_schema_laws.specs.Records.{presence_bit, is_default, is_empty, additions_begin, addition, addition_ends}
+use Rattle.asn1_schema_laws.specs.Records.{choice_begins, ends, mismatch, question, told}
 use Rattle.asn1_laws_fronts.proofs.Fronts.{agree_exactly, agree_nothing, agree_first, agree_map, agree_if, agree_if_right, agree_varied_right}
-use Rattle.asn1_laws_fronts.proofs.PerNumbers.{Alike, pairs_equal, at_octet_alike, binary_alike, bits_apart, short_length_alike, counted_octets_alike, constrained_alike, integer_alike, same_bits, octets_again}
+use Rattle.asn1_laws_fronts.proofs.PerNumbers.{Alike, pairs_equal, at_octet_alike, binary_alike, bits_apart}
+use Rattle.asn1_laws_fronts.proofs.PerNumbers.{short_length_alike, counted_octets_alike, constrained_alike}
+use Rattle.asn1_laws_fronts.proofs.PerNumbers.{integer_alike, same_bits, octets_again}
 use Rattle.asn1_laws_fronts.proofs.Sevens.{identifiers_equal}
 use Rattle.asn1_laws_fronts.proofs.Additions as adding
 use Rattle.asn1_laws_fronts.proofs.Units.{sized_alike, small_alike, bitmap_alike, items_alike, behind_extension_bit, added_or_root}
 use Rattle.asn1_laws_fronts.proofs.Strings.{string_alike}
 use Rattle.asn1_schema_reading_laws.specs.PresenceBits.{preamble_bits, first_bits}
 use Rattle.per_codec_laws.specs.Sizes.{extension_bit, told_highest}
-use Rattle.per_codec_laws.specs.Takes.{Position, Tally, Scope, components, added, open_type, members, alternative, State, Front, Found, with_fragment, NextDeterminant, Headed, Numbered, Counted, ListBegins, MemberDue, NextMember, Begins, NextPresenceBit, AdditionsBegin, Opens, NextAddition, AdditionEnds, Skips, Chooses, Ends, Takes}
+use Rattle.per_codec_laws.specs.Takes.{Position, Tally, Scope, components, added, open_type, members, alternative}
+use Rattle.per_codec_laws.specs.Takes.{State, Front, Found, with_fragment, NextDeterminant, Headed, Numbered, Counted}
+use Rattle.per_codec_laws.specs.Takes.{ListBegins, MemberDue, NextMember, Begins, NextPresenceBit, AdditionsBegin}
+use Rattle.per_codec_laws.specs.Takes.{Opens, NextAddition, AdditionEnds, Skips, Chooses, Ends, Takes}
 
 pub place_same : (b c : Position) → b.0 ≡ c.0 → b.1 ≡ c.1 → b ≡ c
 place_same b c e f =
@@ -84,22 +94,29 @@ module _ (free : Per.Freedom → Bool) where
 
   bit_strings : (al : Bool) (z : Size) (h : Counts) (v w : List Bool) → Alike free (Per.form al (bit_string z h) (bit_list v)) (Per.form al (bit_string z h) (bit_list w)) (v ≡ w)
   unfolding Per.form
-  bit_strings al z h v w = agree_map free (λ q. pairs_equal v w q) (sized_alike free Bool (λ a b. a ≡ b) (λ b. exactly (b ∷ [])) (λ a b. agree_first free (λ e. agree_map free (λ u. e) (agree_nothing free))) al z h (Per.string_has_padding 1 (length v)) (Per.string_has_padding 1 (length w)) v w (λ l. ap (λ n. Per.string_has_padding 1 n z.counts) l))
+  bit_strings al z h v w = agree_map free (λ q. pairs_equal v w q)
+      (sized_alike free Bool (λ a b. a ≡ b) (λ b. exactly (b ∷ [])) (λ a b. agree_first free (λ e. agree_map free (λ u. e) (agree_nothing free))) al z
+      h (Per.string_has_padding 1 (length v)) (Per.string_has_padding 1 (length w)) v w (λ l. ap (λ n. Per.string_has_padding 1 n z.counts) l))
 
   octet_strings : (al : Bool) (z : Size) (h : Counts) (v w : List ℕ) → Alike free (Per.form al (octet_string z h) (octet_list v)) (Per.form al (octet_string z h) (octet_list w)) (v ≡ w)
   unfolding Per.form
-  octet_strings al z h v w = agree_if free (list_all is_octet v) (list_all is_octet w) _ _ (λ i j. agree_map free (λ q. octets_again v w i j q) (sized_alike free ℕ same_bits (λ o. exactly (binary 8 o)) (λ o p. agree_exactly free _ _ refl) al z h (Per.string_has_padding 8 (length v)) (Per.string_has_padding 8 (length w)) v w (λ l. ap (λ n. Per.string_has_padding 8 n z.counts) l)))
+  octet_strings al z h v w = agree_if free (list_all is_octet v) (list_all is_octet w) _ _ (λ i j.
+      agree_map free (λ q. octets_again v w i j q) (sized_alike free ℕ same_bits (λ o. exactly (binary 8 o)) (λ o p. agree_exactly free _ _ refl) al z
+      h (Per.string_has_padding 8 (length v)) (Per.string_has_padding 8 (length w)) v w (λ l. ap (λ n. Per.string_has_padding 8 n z.counts) l)))
 
-  strings : (al : Bool) (k : StringKind) (z : Size) (l : Alphabet) (h : Counts) (v w : List ℕ) → Alike free (Per.form al (character_string k z l h) (text v)) (Per.form al (character_string k z l h) (text w)) (v ≡ w)
+  strings : (al : Bool) (k : StringKind) (z : Size) (l : Alphabet) (h : Counts) (v w : List ℕ) →
+      Alike free (Per.form al (character_string k z l h) (text v)) (Per.form al (character_string k z l h) (text w)) (v ≡ w)
   unfolding Per.form
   strings al k z l h v w = string_alike free al k z l h v w
 
   identifiers : (al : Bool) (v w : List ℕ) → Alike free (Per.form al object_identifier (arcs v)) (Per.form al object_identifier (arcs w)) (v ≡ w)
   unfolding Per.form
-  identifiers al v w = agree_if free (is_identifier v) (is_identifier w) _ _ (λ i j. agree_map free (λ e. identifiers_equal v w i j e) (counted_octets_alike free al (identifier_octets v) (identifier_octets w)))
+  identifiers al v w = agree_if free (is_identifier v) (is_identifier w) _ _
+      (λ i j. agree_map free (λ e. identifiers_equal v w i j e) (counted_octets_alike free al (identifier_octets v) (identifier_octets w)))
 
   -- ---- length determinants
-  apart_from_last : (m n : ℕ) (b : Bool) → Alike free (exactly (true ∷ true ∷ binary 6 m)) (cond b (only_if (ltb n 16384) (exactly (true ∷ false ∷ binary 14 n))) (only_if (ltb n 128) (exactly (false ∷ binary 7 n)))) ⊥
+  apart_from_last : (m n : ℕ) (b : Bool) → Alike free (exactly (true ∷ true ∷ binary 6 m))
+      (cond b (only_if (ltb n 16384) (exactly (true ∷ false ∷ binary 14 n))) (only_if (ltb n 128) (exactly (false ∷ binary 7 n)))) ⊥
   apart_from_last m n true = agree_if_right free (ltb n 16384) {x = exactly (true ∷ true ∷ binary 6 m)} {y = exactly (true ∷ false ∷ binary 14 n)} (λ h. agree_first free (λ e. bits_apart free))
   apart_from_last m n false = agree_if_right free (ltb n 128) {x = exactly (true ∷ true ∷ binary 6 m)} {y = exactly (false ∷ binary 7 n)} (λ h. bits_apart free)
 
@@ -114,18 +131,18 @@ module _ (free : Per.Freedom → Bool) where
   same_determinant al t a b c n m f g (inl x) (inl y) =
       let h = and_parts _ _ x.1 in
       let k = and_parts _ _ y.1 in
-      let q = same_fronts (fragments_alike al x.0 y.0 (leb-true _ _ h.1) (leb-true _ _ k.1)) a b c x.2 y.2 in
-      (q.1, x.3 ∙ ap (λ i. i * 16384) q.0 ∙ sym y.3, x.4 ∙ ap (λ i. Some (with_fragment i t)) q.0 ∙ sym y.4)
-  same_determinant al t a b c n m f g (inl x) (inr y) = absurd ((same_fronts (fragment_or_last al x.0 m) a b c x.2 y.2).0)
-  same_determinant al t a b c n m f g (inr x) (inl y) = absurd ((same_fronts (fragment_or_last al y.0 n) a c b y.2 x.2).0)
+      let q = same_fronts (fragments_alike al x.0 y.0 (leb-true _ _ h.1) (leb-true _ _ k.1)) a b c x.3 y.3 in
+      (q.1, x.4 ∙ ap (λ i. i * 16384) q.0 ∙ sym y.4, x.5 ∙ ap (λ i. Some (with_fragment i t)) q.0 ∙ sym y.5)
+  same_determinant al t a b c n m f g (inl x) (inr y) = absurd ((same_fronts (fragment_or_last al x.0 m) a b c x.3 y.1).0)
+  same_determinant al t a b c n m f g (inr x) (inl y) = absurd ((same_fronts (fragment_or_last al y.0 n) a c b y.3 x.1).0)
   same_determinant al t a b c n m f g (inr x) (inr y) =
-      let q = same_fronts (short_length_alike free al n m) a b c x.2 y.2 in
-      (q.1, q.0, x.3 ∙ sym y.3)
+      let q = same_fronts (short_length_alike free al n m) a b c x.1 y.1 in
+      (q.1, q.0, x.2 ∙ sym y.2)
 
   -- ---- lists
   same_headed : (al : Bool) (z : Size) (h : Counts) (out : Bool) (a : Position) (k : List Scope) (b c : State) → Headed al free z h out a k b → Headed al free z h out a k c → b ≡ c
   same_headed al z h out a k b c f g =
-      let q = same_determinant al (record { size = z; held = h; outside = out; sizes = [] }) a b.0 c.0 f.0 g.0 f.1 g.1 f.2 g.2 in
+      let q = same_determinant al (record { size = z; held = h; outside = out; counted = 0; last = 4 }) a b.0 c.0 f.0 g.0 f.1 g.1 f.2 g.2 in
       state_same b c q.0 (f.3 ∙ ap (λ n. members n f.1 ∷ k) q.1 ∙ ap (λ t. members g.0 t ∷ k) q.2 ∙ sym g.3)
 
   same_numbered : (al : Bool) (z : Size) (h : Counts) (high : ℕ) (a : Position) (k : List Scope) (b c : State) → Numbered al free z h high a k b → Numbered al free z h high a k c → b ≡ c
@@ -137,7 +154,8 @@ module _ (free : Per.Freedom → Bool) where
       let e : f.0 ≡ g.0 = omega arith in
       state_same b c q.1 (f.3 ∙ ap (λ n. members n None ∷ k) e ∙ sym g.3)
 
-  same_counted : (al : Bool) (z : Size) (h : Counts) (out : Bool) (told : Option ℕ) (a : Position) (k : List Scope) (b c : State) → Counted al free z h out told a k b → Counted al free z h out told a k c → b ≡ c
+  same_counted : (al : Bool) (z : Size) (h : Counts) (out : Bool) (told : Option ℕ) (a : Position) (k : List Scope) (b c : State) →
+      Counted al free z h out told a k b → Counted al free z h out told a k c → b ≡ c
   same_counted al z h out None a k b c f g = same_headed al z h out a k b c f g
   same_counted al z h out (Some high) a k b c f g = same_numbered al z h high a k b c f g
 
@@ -154,7 +172,8 @@ module _ (free : Per.Freedom → Bool) where
   same_list al z h n m a b c f g =
       let q = same_extension_bit z.extensible f.1 g.1 a.0 f.2 g.2 f.3 g.3 in
       let high = z.counts.high in
-      same_counted al z h g.1 (told_highest g.1 high) g.2 a.1 b c (subst (λ p. Counted al free z h g.1 (told_highest g.1 high) p a.1 b) q.1 (subst (λ o. Counted al free z h o (told_highest o high) f.2 a.1 b) q.0 f.4)) g.4
+      same_counted al z h g.1 (told_highest g.1 high) g.2 a.1 b c (subst (λ p. Counted al free z h g.1 (told_highest g.1 high) p a.1 b) q.1
+      (subst (λ o. Counted al free z h o (told_highest o high) f.2 a.1 b) q.0 f.4)) g.4
 
   same_due : (v w : Bool) (n : ℕ) (hs : Option Tally) (a : Position) (k : List Scope) (b c : State) → MemberDue v n hs a k b → MemberDue w n hs a k c → (v ≡ w) × (b ≡ c)
   same_due v w (suc n) hs a k b c f g = (f.0 ∙ sym g.0, f.1 ∙ sym g.1)
@@ -172,7 +191,8 @@ module _ (free : Per.Freedom → Bool) where
   same_member al v w a k b c f g = absurd f
 
   -- ---- components
-  same_preamble : (x y : Option Bool) (ms ns : List Bool) → is_some x ≡ is_some y → length ms ≡ length ns → (length (preamble_bits x ms) ≡ length (preamble_bits y ns)) × (preamble_bits x ms ≡ preamble_bits y ns → (x ≡ y) × (ms ≡ ns))
+  same_preamble : (x y : Option Bool) (ms ns : List Bool) → is_some x ≡ is_some y → length ms ≡ length ns →
+      (length (preamble_bits x ms) ≡ length (preamble_bits y ns)) × (preamble_bits x ms ≡ preamble_bits y ns → (x ≡ y) × (ms ≡ ns))
   same_preamble None None ms ns e l = (l, λ f. (refl, f))
   same_preamble None (Some y) ms ns e l = cc
   same_preamble (Some x) None ms ns e l = cc
@@ -219,16 +239,19 @@ module _ (free : Per.Freedom → Bool) where
   same_addition_end a k b c f g = absurd f
 
   same_skips : (al : Bool) (us : List Bool) (a b c : Position) → Skips al free us a b → Skips al free us a c → b ≡ c
-  same_skips al us a b c f g = (same_fronts (adding.unknowns_alike Per.Freedom Per.Detail Bool free (λ l. Per.counted_octets al l) (λ l m. counted_octets_alike free al l m) f.0 g.0 (f.1 ∙ sym g.1)) a b c f.2 g.2).1
+  same_skips al us a b c f g =
+      (same_fronts (adding.unknowns_alike Per.Freedom Per.Detail Bool free (λ l. Per.counted_octets al l) (λ l m. counted_octets_alike free al l m) f.0 g.0 (f.1 ∙ sym g.1)) a b c f.2 g.2).1
 
   -- ---- choices
-  root_indexes : (al e : Bool) (roots i j : ℕ) → Alike free (both (Per.extension_bit_of e false) (Per.constrained al (roots - 1) i)) (both (Per.extension_bit_of e false) (Per.constrained al (roots - 1) j)) (i ≡ j)
+  root_indexes : (al e : Bool) (roots i j : ℕ) → Alike free (both (Per.extension_bit_of e false) (Per.constrained al (roots - 1) i))
+      (both (Per.extension_bit_of e false) (Per.constrained al (roots - 1) j)) (i ≡ j)
   root_indexes al e roots i j = behind_extension_bit free e false _ _ _ (constrained_alike free al (roots - 1) i j)
 
   added_indexes : (al : Bool) (i j : ℕ) → Alike free (both (exactly (true ∷ [])) (Per.normally_small al i)) (both (exactly (true ∷ [])) (Per.normally_small al j)) (i ≡ j)
   added_indexes al i j = behind_extension_bit free true true _ _ _ (small_alike free al i j)
 
-  same_choice : (al : Bool) (roots : ℕ) (e : Bool) (others : ℕ) (v w : Bool) (i j : ℕ) (a b c : State) → Chooses al free roots e others v i a b → Chooses al free roots e others w j a c → (v ≡ w) × (i ≡ j) × (b ≡ c)
+  same_choice : (al : Bool) (roots : ℕ) (e : Bool) (others : ℕ) (v w : Bool) (i j : ℕ) (a b c : State) → Chooses al free roots e others v i a b →
+      Chooses al free roots e others w j a c → (v ≡ w) × (i ≡ j) × (b ≡ c)
   same_choice al roots e others false false i j a b c f g =
       let q = same_fronts (root_indexes al e roots i j) a.0 b.0 c.0 f.1 g.1 in
       (refl, q.0, state_same b c q.1 (f.2 ∙ sym g.2))

@@ -3,7 +3,10 @@
 use Rattle.std.proofs.Common.{◌≡◌, ℕ, suc, Bool, Option, Some, None, true, false, IsTrue, List, [], ◌∷◌, length, refl, ap, subst}
 use Rattle.std.proofs.lemmas.Bool.{and_parts}
 use Rattle.asn1_model.specs.Value.{Value, fields, Parts, end, absent, present, same}
-use Rattle.asn1_model.specs.Schema.{Schema, cut, boolean, null, integer, enumerated, bit_string, octet_string, character_string, object_identifier, sequence_of, set_of, sequence, set, group, choice, Components, no_component, component, Alternatives, no_alternative, alternative}
+use Rattle.asn1_model.specs.Schema.{Schema, cut, boolean, null, integer, enumerated, bit_string, octet_string}
+use Rattle.asn1_model.specs.Schema.{character_string, object_identifier, sequence_of, set_of, sequence, set, group}
+use Rattle.asn1_model.specs.Schema.{choice, Components, no_component, component, Alternatives, no_alternative}
+use Rattle.asn1_model.specs.Schema.{alternative}
 use Rattle.asn1_model.specs.Form.{given}
 use Rattle.std.specs.Prelude.{is_some}
 use Rattle.asn1_model.specs.Lawful.{is_lawful, are_lawful, are_lawful_alternatives}
@@ -15,7 +18,7 @@ use Rattle.asn1_schema_laws.specs.Presents.{presents, root_records, added_record
 use Rattle.asn1_schema_laws.specs.Chains.{Chain}
 use Rattle.asn1_schema_reading_laws.specs.Bags.{has_no_bag}
 use Rattle.per_codec_laws.specs.Takes.{Position, State, components, Front, Found, Begins, Takes}
-use Rattle.per_codec_laws.specs.Ties.{Bridges}
+use Rattle.per_codec_laws.specs.Laws.{Bridges}
 use Rattle.asn1_schema_reading_laws.proofs.Alike.{LikeParts, parts_self, both_same, like_fields}
 use Rattle.per_codec_laws.proofs.Fronts.{Finds, Shows, by_itself, Step, of_refused, given_out, none}
 use Rattle.per_codec_laws.proofs.Lists.{list_finds, list_shows, bag_finds, bag_shows}
@@ -38,14 +41,16 @@ module _ (al : Bool) (free : Per.Freedom → Bool) (other : IsTrue (free Per.oth
   no_more cs h ps a m b t c = let o = begun_in free al false cs h ps (mismatch ∷ []) a m b t c in o.7.1
 
   -- additions without an extension bit
-  no_additions : (cs : Components) → EachFinds al free cs → (ps : Parts) (n : ℕ) (rs : List Record) (a m b : State) → Begins free false (optional_count cs) a m → Chain (Step free al) (root_records cs ps (additions_begin n ∷ rs)) m b → ⊥
+  no_additions : (cs : Components) → EachFinds al free cs → (ps : Parts) (n : ℕ) (rs : List Record) (a m b : State) →
+      Begins free false (optional_count cs) a m → Chain (Step free al) (root_records cs ps (additions_begin n ∷ rs)) m b → ⊥
   no_additions cs h ps n rs a m b t c = let o = begun_in free al false cs h ps (additions_begin n ∷ rs) a m b t c in without o.0 o.1 o.3 o.4 o.7
     where
       without : (x : Option Bool) (more : List Bool) (mid : Position) → is_some x ≡ false → Chain (Step free al) (additions_begin n ∷ rs) (mid, components x more ∷ a.1) b → ⊥
       without None more mid e c = c.1
       without (Some x) more mid e c = cc
 
-  fields_in : (cs : Components) → EachFinds al free cs → (e : Bool) (adds : Components) → EachFinds al free adds → (ps qs : Parts) (a m b : State) → Begins free e (optional_count cs) a m → Parted cs e adds ps qs m b → Found free (Fielded cs e adds ps qs) a b
+  fields_in : (cs : Components) → EachFinds al free cs → (e : Bool) (adds : Components) → EachFinds al free adds → (ps qs : Parts) (a m b : State) →
+      Begins free e (optional_count cs) a m → Parted cs e adds ps qs m b → Found free (Fielded cs e adds ps qs) a b
   unfolding Per.sequence_form Per.addition_forms added_records
   fields_in cs h true adds k ps qs a m b t c = extended_in free al other adds k qs cs h ps a m b t c
   fields_in cs h false no_component k ps end a m b t c = plain_in free al cs h ps a m b t c
@@ -56,7 +61,8 @@ module _ (al : Bool) (free : Per.Freedom → Bool) (other : IsTrue (free Per.oth
   abbrev FieldsOut : Components → Bool → Components → Parts → Parts → State → State → Type 0
   FieldsOut cs e adds ps qs a b = (rs : Parts) × (ss : Parts) × (m : State) × LikeParts cs ps rs × LikeParts adds qs ss × Begins free e (optional_count cs) a m × Parted cs e adds rs ss m b
 
-  fields_out : (cs : Components) → EachShows al free cs → (e : Bool) (adds : Components) → EachShows al free adds → (ps qs : Parts) (a b : State) → Found free (Fielded cs e adds ps qs) a b → FieldsOut cs e adds ps qs a b
+  fields_out : (cs : Components) → EachShows al free cs → (e : Bool) (adds : Components) → EachShows al free adds → (ps qs : Parts) (a b : State) →
+      Found free (Fielded cs e adds ps qs) a b → FieldsOut cs e adds ps qs a b
   unfolding Per.sequence_form Per.addition_forms added_records
   fields_out cs h true adds k ps qs a b f = let t = extended_out free al other adds k qs cs h ps a b f in (t.2.0, t.0, t.2.1, t.2.2, t.1, t.2.3, t.2.4)
   fields_out cs h false no_component k ps end a b f = let t = plain_out free al cs h ps a b f in (t.0, end, t.1, t.2, (parts_self end, λ n. refl), t.3, t.4)
@@ -66,7 +72,8 @@ module _ (al : Bool) (free : Per.Freedom → Bool) (other : IsTrue (free Per.oth
       let t = given_out free (Per.addition_forms al (component g o s adds) qs) (Per.sequence_form al false (presence_bits cs ps) (Per.component_forms al cs ps)) a.0 b.0 f.0 in
       absurd (refuses t.0 (additions_long free al (component g o s adds) qs t.0 t.1) a.0 b.0 t.2)
     where
-      refuses : (xs : List (Option Per.BitForm)) → length xs ≡ suc (component_count adds) → (start rest : Position) → Front free (Per.sequence_form al false (presence_bits cs ps) (Per.component_forms al cs ps) xs) start rest → ⊥
+      refuses : (xs : List (Option Per.BitForm)) → length xs ≡ suc (component_count adds) → (start rest : Position) →
+          Front free (Per.sequence_form al false (presence_bits cs ps) (Per.component_forms al cs ps) xs) start rest → ⊥
       refuses [] e start rest f = cc
       refuses (x ∷ xs) e start rest f = of_refused free start rest f
 
@@ -140,13 +147,16 @@ module _ (al : Bool) (free : Per.Freedom → Bool) (other : IsTrue (free Per.oth
     alternative_shows no_alternative l = tt
     alternative_shows (alternative t s others) l = (shows s ((and_parts _ _ ((and_parts _ _ l).0)).1), alternative_shows others ((and_parts _ _ l).1))
 
-pub records_read : (al : Bool) (free : Per.Freedom → Bool) (s : Schema) (v : Value) (a b : State) → IsTrue (free Per.other_bitmap) → IsTrue (free Per.other_order) → Chain (Takes al free) (presents s v) a b → Found free (Per.form al s v) a b
+pub records_read : (al : Bool) (free : Per.Freedom → Bool) (s : Schema) (v : Value) (a b : State) → IsTrue (free Per.other_bitmap) →
+    IsTrue (free Per.other_order) → Chain (Takes al free) (presents s v) a b → Found free (Per.form al s v) a b
 records_read al free s v a b other order c = finds al free other order s v a b c
 
-pub forms_show : (al : Bool) (free : Per.Freedom → Bool) (s : Schema) (v : Value) (a b : State) → IsTrue (free Per.other_bitmap) → IsTrue (is_lawful s) → Found free (Per.form al s v) a b → (w : Value) × (same v w ≡ true) × Chain (Takes al free) (presents s w) a b
+pub forms_show : (al : Bool) (free : Per.Freedom → Bool) (s : Schema) (v : Value) (a b : State) → IsTrue (free Per.other_bitmap) →
+    IsTrue (is_lawful s) → Found free (Per.form al s v) a b → (w : Value) × (same v w ≡ true) × Chain (Takes al free) (presents s w) a b
 forms_show al free s v a b other l f = let t = shows al free other s l v a b f in (t.0, t.1.0, t.2)
 
-pub each_bridges : (al : Bool) (free : Per.Freedom → Bool) (s : Schema) (v : Value) → IsTrue (free Per.other_bitmap) → IsTrue (free Per.other_order) → IsTrue (is_lawful s) → has_no_bag s ≡ true → Bridges al free s v
+pub each_bridges : (al : Bool) (free : Per.Freedom → Bool) (s : Schema) (v : Value) → IsTrue (free Per.other_bitmap) → IsTrue (free Per.other_order) →
+    IsTrue (is_lawful s) → has_no_bag s ≡ true → Bridges al free s v
 each_bridges al free s v other order l n a b = (λ c. finds al free other order s v a b c, back)
   where
     back : Found free (Per.form al s v) a b → Chain (Takes al free) (presents s v) a b

@@ -1,3 +1,3 @@
 pub mod Sizes
 pub mod Takes
-pub mod Ties
+pub mod Laws

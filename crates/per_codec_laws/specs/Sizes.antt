@@ -1,4 +1,5 @@
--- What precedes the units under a size constraint, in a string as in a list or bag (X.691 16, 17, 20, 22 and 30).
+-- The extension bit of a size, an item or an alternative (X.691 14.3, 16.6, 17.3, 20.4, 23.5 and 30.4), and the upper
+-- bound that determines the form of a count (11.9.4.1).
 use Rattle.std.specs.Prelude.{ℕ, not, Bool, true, false, [], ◌∷◌, Option, None}
 use Rattle.asn1_model.specs.Form.{exactly, only_if}
 use Rattle.asn1_model.specs.Per

@@ -22,14 +22,15 @@ use Rattle.per_codec_laws.specs.Sizes.{extension_bit, told_highest}
 abbrev pub Position : Type 0
 Position = ℕ × List Bool
 
--- A list in fragments: its size, the counts that the Rust type holds, the extension bit of the size, and the
--- multiples of 16384 elements of the fragments so far (X.691 11.9.3.8). The number of elements is checked at the end,
--- where it is known.
+-- A list in fragments: its size, the counts that the Rust type holds, the extension bit of the size, the number of
+-- elements in the fragments so far, and the multiple of 16384 elements of the last of them (X.691 11.9.3.8): 4 before
+-- the first one, which may be any. The number of elements is checked at the end, where it is known.
 pub record Tally : Type 0 where
   pub size : Size
   pub held : Counts
   pub outside : Bool
-  pub sizes : List ℕ
+  pub counted : ℕ
+  pub last : ℕ
 
 -- An open scope.
 pub data Scope : Type 0 where
@@ -72,28 +73,25 @@ InPlace free true t = (t ≡ false) ⊎ IsTrue (free Per.root_told_outside)
 abbrev pub Admits : (Per.Freedom → Bool) → Size → Counts → Bool → ℕ → Type 0
 Admits free z h out n = (is_count_within h n ≡ true) × InPlace free out (is_count_within z.counts n)
 
--- The number of elements in fragments of these sizes, and a number of elements after them.
-abbrev pub in_all : List ℕ → ℕ → ℕ
-in_all [] n = n
-in_all (m ∷ ms) n = m * 16384 + in_all ms n
-
 abbrev pub with_fragment : ℕ → Tally → Tally
-with_fragment m t = record { size = t.size; held = t.held; outside = t.outside; sizes = t.sizes ++ m ∷ [] }
+with_fragment m t =
+    record { size = t.size; held = t.held; outside = t.outside; counted = t.counted + m * 16384; last = m }
 
--- The length determinant of a further fragment (X.691 11.9.3.8).
+-- The length determinant of a further fragment. After one of fewer than 65536 elements there is none, unless the reader
+-- accepts any fragments (X.691 11.9.3.8).
 abbrev pub NextFragment : Bool → (Per.Freedom → Bool) → Tally → Position → Position → ℕ → Option Tally → Type 0
 NextFragment al free t a b due hs =
-    (m : ℕ) × ((leb 1 m && leb m 4) ≡ true) × Front free (Per.at_octet al (exactly (true ∷ true ∷ binary 6 m))) a b
+    (m : ℕ) × ((leb 1 m && leb m 4) ≡ true) × ((t.last ≡ 4) ⊎ IsTrue (free Per.other_fragments))
+    × Front free (Per.at_octet al (exactly (true ∷ true ∷ binary 6 m))) a b
     × (due ≡ m * 16384) × (hs ≡ Some (with_fragment m t))
 
 -- The length determinant after all fragments, with which all elements are counted (X.691 11.9.3.5 to 11.9.3.8).
 abbrev pub LastLength : Bool → (Per.Freedom → Bool) → Tally → Position → Position → ℕ → Option Tally → Type 0
 LastLength al free t a b due hs =
-    Admits free t.size t.held t.outside (in_all t.sizes due)
-    × ((t.sizes ≡ Per.largest_first (in_all t.sizes due)) ⊎ IsTrue (free Per.other_fragments))
-    × Front free (Per.short_length al due) a b × (hs ≡ None)
+    Admits free t.size t.held t.outside (t.counted + due) × Front free (Per.short_length al due) a b × (hs ≡ None)
 
--- Either: a number of elements is due after it, and then a length determinant if something is known of the list.
+-- The next length determinant of a list, of a fragment or the last one: a number of elements is due after it, and then
+-- another length determinant if something is known of the list.
 abbrev pub NextDeterminant : Bool → (Per.Freedom → Bool) → Tally → Position → Position → ℕ → Option Tally → Type 0
 NextDeterminant al free t a b due hs = NextFragment al free t a b due hs ⊎ LastLength al free t a b due hs
 
@@ -101,7 +99,7 @@ NextDeterminant al free t a b due hs = NextFragment al free t a b due hs ⊎ Las
 abbrev pub Headed : Bool → (Per.Freedom → Bool) → Size → Counts → Bool → Position → List Scope → State → Type 0
 Headed al free z h out a k b =
     (due : ℕ) × (hs : Option Tally)
-    × NextDeterminant al free (record { size = z; held = h; outside = out; sizes = [] }) a b.0 due hs
+    × NextDeterminant al free (record { size = z; held = h; outside = out; counted = 0; last = 4 }) a b.0 due hs
     × (b.1 ≡ members due hs ∷ k)
 
 -- A list whose elements follow a count that the bounds of its size determine (X.691 11.9.4.1).
@@ -111,7 +109,8 @@ Numbered al free z h high a k b =
     × (b.1 ≡ members n None ∷ k)
 
 -- After a count if an upper bound determines its form, else after a first length determinant.
-abbrev pub Counted : Bool → (Per.Freedom → Bool) → Size → Counts → Bool → Option ℕ → Position → List Scope → State → Type 0
+abbrev pub Counted : Bool → (Per.Freedom → Bool) → Size → Counts → Bool → Option ℕ → Position → List Scope → State
+    → Type 0
 Counted al free z h out None a k b = Headed al free z h out a k b
 Counted al free z h out (Some high) a k b = Numbered al free z h high a k b
 

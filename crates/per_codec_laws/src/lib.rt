@@ -3,9 +3,9 @@
 //! the canonical encoding that a reader accepts. The functions do nothing: each contract is a law.
 #![tactic(auto)]
 
-ghost use Rattle.per_codec_laws.specs.Ties.{CountHeld, EachBridges, EndsAtOctet, FindsEncodings, FormsShow};
-ghost use Rattle.per_codec_laws.specs.Ties.{PaddedMessages};
-ghost use Rattle.per_codec_laws.specs.Ties.{OneTaken, RecordsFit, RecordsRead};
+ghost use Rattle.per_codec_laws.specs.Laws.{CountHeld, EachBridges, MessagesEndAtOctets, FindsEncodings, FormsShow};
+ghost use Rattle.per_codec_laws.specs.Laws.{PaddedMessages};
+ghost use Rattle.per_codec_laws.specs.Laws.{OneTaken, RecordsFit, RecordsRead};
 
 /// Among the records that answer the same question at most one is next, and one state follows it, whatever the
 /// reader's freedoms are.
@@ -42,7 +42,7 @@ pub fn records_fit()
 
 /// The padding of a message after the records of a value ends at an octet boundary.
 pub fn messages_end_at_octets()
-    ensures { EndsAtOctet }
+    ensures { MessagesEndAtOctets }
 {}
 
 /// If the octets begin with a message of a well-formed type, it is padded after the records of whichever value is

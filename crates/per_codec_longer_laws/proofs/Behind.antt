@@ -93,7 +93,8 @@ module _ (free : Per.Freedom → Bool) where
     pub front_more : (x : Per.BitForm) (k : List Scope) (p rest : Position) → Front free x p rest → Front free x (place_with e k p) (place_with e k rest)
     front_more x k p rest f = record { text = f.text; has_form = f.has_form; in_front = place_front e k f.text rest.1 p f.in_front; moved = f.moved }
 
-    pub front_back : (x : Per.BitForm) (k : List Scope) (p r : Position) → Front free x (place_with e k p) r → length e ≤ length (bits_behind r (scopes_with e k)) → (rest : Position) × (r ≡ place_with e k rest) × Front free x p rest
+    pub front_back : (x : Per.BitForm) (k : List Scope) (p r : Position) → Front free x (place_with e k p) r →
+        length e ≤ length (bits_behind r (scopes_with e k)) → (rest : Position) × (r ≡ place_with e k rest) × Front free x p rest
     front_back x k p r f h = by_case (is_within k) refl f
       where
         by_case : (b : Bool) → is_within k ≡ b → Front free x (p.0, cond b p.1 (p.1 ++ e)) r → (rest : Position) × (r ≡ (rest.0, cond b rest.1 (rest.1 ++ e))) × Front free x p rest

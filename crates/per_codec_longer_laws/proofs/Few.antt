@@ -8,12 +8,17 @@ use Rattle.asn1_model.specs.Per
 use Rattle.asn1_schema_reading_laws.specs.PresenceBits.{first_bits}
 use Rattle.asn1_schema_reading_laws.proofs.Fitting
 use Rattle.asn1_model.specs.Numbers.{octet_bits}
-use Rattle.asn1_schema_laws.specs.Records.{Record, flag, nil, whole, one_of, bits, octets, characters, identifier, list_begins, bag_begins, further, sequence_begins, set_begins, group_begins, presence_bit, is_default, is_empty, additions_begin, addition, addition_ends, choice_begins, ends, mismatch}
+use Rattle.asn1_schema_laws.specs.Records.{Record, flag, nil, whole, one_of, bits, octets, characters, identifier}
+use Rattle.asn1_schema_laws.specs.Records.{list_begins, bag_begins, further, sequence_begins, set_begins, group_begins}
+use Rattle.asn1_schema_laws.specs.Records.{presence_bit, is_default, is_empty, additions_begin, addition, addition_ends}
+use Rattle.asn1_schema_laws.specs.Records.{choice_begins, ends, mismatch}
 use Rattle.asn1_schema_laws.specs.Presents.{presents, member_records, Fits}
 use Rattle.asn1_schema_laws.specs.Chains.{Chain}
 use Rattle.asn1_schema_laws.proofs.Chains.{chain_split}
 use Rattle.per_codec_laws.specs.Sizes.{told_highest}
-use Rattle.per_codec_laws.specs.Takes.{Position, Tally, State, Scope, components, added, open_type, members, alternative, MemberDue, Counted, ListBegins, NextMember, NextPresenceBit, AdditionsBegin, NextAddition, AdditionEnds, Chooses, Ends, Takes}
+use Rattle.per_codec_laws.specs.Takes.{Position, Tally, State, Scope, components, added, open_type, members}
+use Rattle.per_codec_laws.specs.Takes.{alternative, MemberDue, Counted, ListBegins, NextMember, NextPresenceBit}
+use Rattle.per_codec_laws.specs.Takes.{AdditionsBegin, NextAddition, AdditionEnds, Chooses, Ends, Takes}
 use Rattle.per_codec_laws.proofs.Next.{one_taken}
 use Rattle.per_codec_laws.proofs.Whole.{records_read}
 use Rattle.per_codec_longer_laws.specs.More.{is_within, place_with, scopes_with, with_more}
@@ -121,7 +126,8 @@ module _ (al : Bool) (free : Per.Freedom → Bool) where
     pub list_around : (z : Size) (h : Counts) (m : ℕ) (a b : State) → ListBegins al free z h m a b → around b.1 ≡ a.1
     list_around z h m a b f = counted_around z h f.1 (told_highest f.1 z.counts.high) f.2 a.1 b f.4
 
-    pub begins : (n : ℕ) (z : Size) (h : Counts) (m : ℕ) (a b c : State) → Takes al free a (list_begins z h m) b → TooFew n a c → (d : State) × Takes al free c (list_begins z h m) d × TooFewMembers n b d
+    pub begins : (n : ℕ) (z : Size) (h : Counts) (m : ℕ) (a b c : State) → Takes al free a (list_begins z h m) b → TooFew n a c → (d : State) ×
+        Takes al free c (list_begins z h m) d × TooFewMembers n b d
     begins n z h m a b c t f =
         let g = subst (λ s. Takes al free s (list_begins z h m) (with_more f.0 b)) (sym f.1) (takes_more al free f.0 a (list_begins z h m) b t) in
         (with_more f.0 b, g, fewer_owed n (due (around b.1)) (due a.1) a b f.0 (same_owed (around b.1) a.1 (ap (λ l. due l) (list_around z h m a b t))) f.2)
@@ -140,7 +146,8 @@ module _ (al : Bool) (free : Per.Freedom → Bool) where
     pub coming : (n : ℕ) (a b c : State) → Takes al free a (further true) b → TooFewMembers n a c → (d : State) × Takes al free c (further true) d
     coming n a b c t f = (with_more f.0 b, subst (λ s. Takes al free s (further true) (with_more f.0 b)) (sym f.1) (takes_more al free f.0 a (further true) b t))
 
-    pub next_member : (n : ℕ) (s : Schema) (v : Value) (a m b c : State) → Takes al free a (further true) m → Chain (Takes al free) (presents s v) m b → TooFewMembers n a c → (d : State) × (e : State) × Takes al free c (further true) d × Chain (Takes al free) (presents s v) d e × TooFewMembers n b e
+    pub next_member : (n : ℕ) (s : Schema) (v : Value) (a m b c : State) → Takes al free a (further true) m →
+        Chain (Takes al free) (presents s v) m b → TooFewMembers n a c → (d : State) × (e : State) × Takes al free c (further true) d × Chain (Takes al free) (presents s v) d e × TooFewMembers n b e
     next_member n s v a m b c t q f =
         let g = subst (λ s. Takes al free s (further true) (with_more f.0 m)) (sym f.1) (takes_more al free f.0 a (further true) m t) in
         let h = chain_more al free f.0 (presents s v) m b q in
@@ -165,7 +172,8 @@ module _ (al : Bool) (free : Per.Freedom → Bool) where
         (with_more f.0 b, g, fewer_owed n (due b.1) (due (around a.1)) a b f.0 (same_owed b.1 (around a.1) (last_owed a.0 a.1 b t)) f.2)
 
     -- if no element is due, none is missing; if one is due, it comes
-    asked_at : (n : ℕ) (p : Position) (k : List Scope) → ((c : State) → TooFew n (p, k) c → (v : Bool) (d : State) → Takes al free c (further v) d → ⊥) → (e : List Bool) → (length e + due (around k) ≤ n) ⊎ (e ≡ []) → (v : Bool) (d : State) → NextMember al free v (place_with e k p) (scopes_with e k) d → ⊥
+    asked_at : (n : ℕ) (p : Position) (k : List Scope) → ((c : State) → TooFew n (p, k) c → (v : Bool) (d : State) → Takes al free c (further v) d →
+        ⊥) → (e : List Bool) → (length e + due (around k) ≤ n) ⊎ (e ≡ []) → (v : Bool) (d : State) → NextMember al free v (place_with e k p) (scopes_with e k) d → ⊥
     asked_at n p (members (suc m) hs ∷ k) h e q v d t = h (p, members (suc m) hs ∷ k) (at_once n (p, members (suc m) hs ∷ k)) true (p, members m hs ∷ k) (refl, refl)
     asked_at n p (members zero hs ∷ k) h e q v d t =
         let a : State = (p, members zero hs ∷ k) in
@@ -177,7 +185,8 @@ module _ (al : Bool) (free : Per.Freedom → Bool) where
     asked_at n p (open_type r ∷ k) h e q v d t = absurd t
     asked_at n p (alternative ∷ k) h e q v d t = absurd t
 
-    pub asked : (n : ℕ) (a : State) → ((c : State) → TooFew n a c → (v : Bool) (d : State) → Takes al free c (further v) d → ⊥) → (c : State) → TooFewMembers n a c → (v : Bool) (d : State) → Takes al free c (further v) d → ⊥
+    pub asked : (n : ℕ) (a : State) → ((c : State) → TooFew n a c → (v : Bool) (d : State) → Takes al free c (further v) d → ⊥) → (c : State) →
+        TooFewMembers n a c → (v : Bool) (d : State) → Takes al free c (further v) d → ⊥
     asked n a h c f v d t = asked_at n a.0 a.1 h f.0 f.2 v d (subst (λ s. Takes al free s (further v) d) f.1 t)
 
     -- if an element is missing, so are those after it
@@ -187,14 +196,17 @@ module _ (al : Bool) (free : Per.Freedom → Bool) where
     fits : (s : Schema) (v : Value) (a b : State) → Chain (Takes al free) (presents s v) a b → Fits s v
     fits s v a b t = Fitting.records_fit _ _ (λ x y m. m) s v a b t
 
-    stuck_at : (n : ℕ) (s : Schema) → IsLawful s → (j : ℕ) (hs : Option Tally) (p : Position) (k : List Scope) → Absent n s (p, members j hs ∷ k) → (e : List Bool) → (length e + due k ≤ n) ⊎ (e ≡ []) → (v : Value) (vs : Values) (c : State) → Chain (Takes al free) (presents s v ++ member_records (λ w. presents s w) vs) (with_more e (p, members j hs ∷ k)) c → ⊥
+    stuck_at : (n : ℕ) (s : Schema) → IsLawful s → (j : ℕ) (hs : Option Tally) (p : Position) (k : List Scope) → Absent n s (p, members j hs ∷ k) →
+        (e : List Bool) → (length e + due k ≤ n) ⊎ (e ≡ []) → (v : Value) (vs : Values) (c : State) →
+        Chain (Takes al free) (presents s v ++ member_records (λ w. presents s w) vs) (with_more e (p, members j hs ∷ k)) c → ⊥
     stuck_at n s l j hs p k h e (inr q) v vs c t =
         let a : State = (p, members j hs ∷ k) in
         let z = chain_split (Takes al free) (presents s v) (member_records (λ w. presents s w) vs) (with_more e a) c t in
         h (with_more e a) (e, refl, inr q) v z.0 (fits s v (with_more e a) z.0 z.1) z.1
     stuck_at n s l j hs p k h e (inl q) v vs c t = by_case (is_within k) refl
       where
-        here : (m : ℕ) → (m + (j + due k) ≤ n) ⊎ (m ≡ 0) → is_within k ≡ false → (f : List Bool) (u : Value) (d : State) → length f ≤ m → Chain (Takes al free) (presents s u) (with_more f (p, members j hs ∷ k)) d → ⊥
+        here : (m : ℕ) → (m + (j + due k) ≤ n) ⊎ (m ≡ 0) → is_within k ≡ false → (f : List Bool) (u : Value) (d : State) → length f ≤ m →
+            Chain (Takes al free) (presents s u) (with_more f (p, members j hs ∷ k)) d → ⊥
         here m (inl i) w f u d g x =
             let o : due (members j hs ∷ k) ≡ j + due k = ap (λ b. cond b (due k) (j + due k)) w in
             h (with_more f (p, members j hs ∷ k)) (f, refl, inl (omega arith)) u d (fits s u (with_more f (p, members j hs ∷ k)) d x) x
@@ -223,14 +235,18 @@ module _ (al : Bool) (free : Per.Freedom → Bool) where
     member_coming p (members (suc n) hs ∷ k) b f = due_coming (suc n) hs p k b f
     member_coming p k b f = absurd f
 
-    pub stuck : (n : ℕ) (s : Schema) → IsLawful s → (a b : State) → Takes al free a (further true) b → Absent n s b → (c d : State) → TooFewMembers n a c → Takes al free c (further true) d → (v : Value) (vs : Values) (e : State) → Chain (Takes al free) (presents s v ++ member_records (λ w. presents s w) vs) d e → ⊥
+    pub stuck : (n : ℕ) (s : Schema) → IsLawful s → (a b : State) → Takes al free a (further true) b → Absent n s b → (c d : State) →
+        TooFewMembers n a c → Takes al free c (further true) d → (v : Value) (vs : Values) (e : State) → Chain (Takes al free) (presents s v ++ member_records (λ w. presents s w) vs) d e → ⊥
     stuck n s l a b t h c d f g v vs e q =
         let m = member_coming a.0 a.1 b t in
-        let i : d ≡ with_more f.0 b = (one_taken al free (with_more f.0 a) (further true) (further true) d (with_more f.0 b) refl (subst (λ x. Takes al free x (further true) d) f.1 g) (takes_more al free f.0 a (further true) b t)).1 in
+        let i : d ≡ with_more f.0 b =
+        (one_taken al free (with_more f.0 a) (further true) (further true) d (with_more f.0 b) refl
+        (subst (λ x. Takes al free x (further true) d) f.1 g) (takes_more al free f.0 a (further true) b t)).1 in
         let o : d ≡ with_more f.0 (b.0, members m.0 m.1 ∷ around a.1) = i ∙ ap (λ x. with_more f.0 x) m.2 in
         stuck_at n s l m.0 m.1 b.0 (around a.1) (subst (λ x. Absent n s x) m.2 h) f.0 f.2 v vs e (subst (λ x. Chain (Takes al free) (presents s v ++ member_records (λ w. presents s w) vs) x e) o q)
 
-    pub bag_begun : (n : ℕ) (z : Size) (h : Counts) (m : ℕ) (a b c : State) → Takes al free a (bag_begins z h m) b → TooFew n a c → (d : State) × Takes al free c (bag_begins z h m) d × TooFewMembers n b d
+    pub bag_begun : (n : ℕ) (z : Size) (h : Counts) (m : ℕ) (a b c : State) → Takes al free a (bag_begins z h m) b → TooFew n a c → (d : State) ×
+        Takes al free c (bag_begins z h m) d × TooFewMembers n b d
     bag_begun n z h m a b c t f = begins n z h m a b c t f
 
 pub few_carried : FewCarried

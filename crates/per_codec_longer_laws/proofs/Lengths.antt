@@ -23,7 +23,8 @@ module _ (free : Per.Freedom → Bool) where
       omega arith
 
   -- units of one width
-  units_long : {X : Type 0} (f : X → List Bool) (u : ℕ) → ((x : X) → length (f x) ≡ u) → (xs : List X) (p rest : Position) → Front free (joined (map (λ x. exactly (f x)) xs)) p rest → length xs * u + length (rest.1) ≡ length (p.1)
+  units_long : {X : Type 0} (f : X → List Bool) (u : ℕ) → ((x : X) → length (f x) ≡ u) → (xs : List X) (p rest : Position) →
+      Front free (joined (map (λ x. exactly (f x)) xs)) p rest → length xs * u + length (rest.1) ≡ length (p.1)
   units_long f u h [] p rest g = let e : length (rest.1) ≡ length (p.1) = ap (λ (q : Position). length (q.1)) (of_nothing free p rest g) in omega arith
   units_long f u h (x ∷ xs) p rest g =
       let z = split free (exactly (f x)) (joined (map (λ x. exactly (f x)) xs)) p rest g in
@@ -33,7 +34,8 @@ module _ (free : Per.Freedom → Bool) where
       let d : suc (length xs) * u ≡ u + length xs * u = omega arith in
       omega arith
 
-  apart_from_last : (m n : ℕ) (b : Bool) → Alike free (exactly (true ∷ true ∷ binary 6 m)) (cond b (only_if (ltb n 16384) (exactly (true ∷ false ∷ binary 14 n))) (only_if (ltb n 128) (exactly (false ∷ binary 7 n)))) ⊥
+  apart_from_last : (m n : ℕ) (b : Bool) → Alike free (exactly (true ∷ true ∷ binary 6 m))
+      (cond b (only_if (ltb n 16384) (exactly (true ∷ false ∷ binary 14 n))) (only_if (ltb n 128) (exactly (false ∷ binary 7 n)))) ⊥
   apart_from_last m n true = agree_if_right free (ltb n 16384) {x = exactly (true ∷ true ∷ binary 6 m)} {y = exactly (true ∷ false ∷ binary 14 n)} (λ h. agree_first free (λ e. bits_apart free))
   apart_from_last m n false = agree_if_right free (ltb n 128) {x = exactly (true ∷ true ∷ binary 6 m)} {y = exactly (false ∷ binary 7 n)} (λ h. bits_apart free)
 
@@ -57,7 +59,8 @@ module _ (free : Per.Freedom → Bool) where
     abbrev units : {X : Type 0} → (X → List Bool) → List X → List Per.BitForm
     units h xs = map (λ x. exactly (h x)) xs
 
-    counted_long : {X : Type 0} (h : X → List Bool) (u : ℕ) → ((x : X) → length (h x) ≡ u) → (xs : List X) (rest : Position) → Front free (Per.counted al (units h xs)) p rest → length xs * u + length (rest.1) ≡ length (behind.1)
+    counted_long : {X : Type 0} (h : X → List Bool) (u : ℕ) → ((x : X) → length (h x) ≡ u) → (xs : List X) (rest : Position) →
+        Front free (Per.counted al (units h xs)) p rest → length xs * u + length (rest.1) ≡ length (behind.1)
     unfolding Per.counted
     counted_long h u k xs rest g =
         let z = varied_out free {c = Per.other_fragments} (λ ms. Per.fragments al ms (units h xs)) p rest g in

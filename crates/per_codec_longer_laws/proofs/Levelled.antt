@@ -28,7 +28,8 @@ module _ (al : Bool) (free : Per.Freedom → Bool) (other : IsTrue (free Per.oth
   Found v a b = Chain (Takes al free) (presents s v) a b
 
   -- if no value with so few levels is next in some state, each takes at least one bit in every state
-  some_within : IsLawful s → (c : State) → ((w : Value) (d : State) → depth w ≤ deepest → Found w c d → ⊥) → (v : Value) (a b : State) → depth v ≤ deepest → Found v a b → length (b.0.1) < length (a.0.1)
+  some_within : IsLawful s → (c : State) → ((w : Value) (d : State) → depth w ≤ deepest → Found w c d → ⊥) → (v : Value) (a b : State) →
+      depth v ≤ deepest → Found v a b → length (b.0.1) < length (a.0.1)
   some_within l c none v a b i q =
       elim (cases_lt (length (b.0.1)) (length (a.0.1))) [
         | inl h ↦ h
@@ -57,7 +58,10 @@ module _ (al : Bool) (free : Per.Freedom → Bool) (other : IsTrue (free Per.oth
       let t = h v (p, members j hs ∷ k) z.0 (omega arith) y in
       omega arith
 
-  lacking_within : IsLawful s → (n j : ℕ) (hs : Option Tally) (p : Position) (k : List Scope) → is_within k ≡ false → ((e : List Bool) (v : Value) (c : State) → length e ≤ n → depth v ≤ deepest → Found v (with_more e (p, members j hs ∷ k)) c → ⊥) → (e : List Bool) (v : Value) (vs : Values) (c : State) → length e ≤ n + j → depth v ≤ deepest → depth_of_members vs ≤ deepest → Chain (Takes al free) (presents s v ++ member_records (λ w. presents s w) vs) (with_more e (p, members j hs ∷ k)) c → ⊥
+  lacking_within : IsLawful s → (n j : ℕ) (hs : Option Tally) (p : Position) (k : List Scope) → is_within k ≡ false →
+      ((e : List Bool) (v : Value) (c : State) → length e ≤ n → depth v ≤ deepest → Found v (with_more e (p, members j hs ∷ k)) c → ⊥) →
+      (e : List Bool) (v : Value) (vs : Values) (c : State) → length e ≤ n + j → depth v ≤ deepest → depth_of_members vs ≤ deepest →
+      Chain (Takes al free) (presents s v ++ member_records (λ w. presents s w) vs) (with_more e (p, members j hs ∷ k)) c → ⊥
   lacking_within l n j hs p k w none e v vs c h dv dvs q =
       let a : State = (p, members j hs ∷ k) in
       let z = chain_split (Takes al free) (presents s v) (member_records (λ w. presents s w) vs) (with_more e a) c q in
@@ -79,14 +83,17 @@ module _ (al : Bool) (free : Per.Freedom → Bool) (other : IsTrue (free Per.oth
   fits : (v : Value) (a b : State) → Found v a b → Fits s v
   fits v a b t = Fitting.records_fit _ _ (λ x y m. m) s v a b t
 
-  stuck_at : IsLawful s → (n j : ℕ) (hs : Option Tally) (p : Position) (k : List Scope) → Absent n (p, members j hs ∷ k) → (e : List Bool) → (length e + due k ≤ n) ⊎ (e ≡ []) → (v : Value) (vs : Values) (c : State) → depth v ≤ deepest → depth_of_members vs ≤ deepest → Chain (Takes al free) (presents s v ++ member_records (λ w. presents s w) vs) (with_more e (p, members j hs ∷ k)) c → ⊥
+  stuck_at : IsLawful s → (n j : ℕ) (hs : Option Tally) (p : Position) (k : List Scope) → Absent n (p, members j hs ∷ k) → (e : List Bool) →
+      (length e + due k ≤ n) ⊎ (e ≡ []) → (v : Value) (vs : Values) (c : State) → depth v ≤ deepest → depth_of_members vs ≤ deepest →
+      Chain (Takes al free) (presents s v ++ member_records (λ w. presents s w) vs) (with_more e (p, members j hs ∷ k)) c → ⊥
   stuck_at l n j hs p k h e (inr q) v vs c dv dvs t =
       let a : State = (p, members j hs ∷ k) in
       let z = chain_split (Takes al free) (presents s v) (member_records (λ w. presents s w) vs) (with_more e a) c t in
       h (with_more e a) (e, refl, inr q) v z.0 (fits v (with_more e a) z.0 z.1) dv z.1
   stuck_at l n j hs p k h e (inl q) v vs c dv dvs t = by_case (is_within k) refl
     where
-      here : (m : ℕ) → (m + (j + due k) ≤ n) ⊎ (m ≡ 0) → is_within k ≡ false → (f : List Bool) (u : Value) (d : State) → length f ≤ m → depth u ≤ deepest → Found u (with_more f (p, members j hs ∷ k)) d → ⊥
+      here : (m : ℕ) → (m + (j + due k) ≤ n) ⊎ (m ≡ 0) → is_within k ≡ false → (f : List Bool) (u : Value) (d : State) → length f ≤ m →
+          depth u ≤ deepest → Found u (with_more f (p, members j hs ∷ k)) d → ⊥
       here m (inl i) w f u d g du x =
           let o : due (members j hs ∷ k) ≡ j + due k = ap (λ b. cond b (due k) (j + due k)) w in
           h (with_more f (p, members j hs ∷ k)) (f, refl, inl (omega arith)) u d (fits u (with_more f (p, members j hs ∷ k)) d x) du x
@@ -104,9 +111,13 @@ module _ (al : Bool) (free : Per.Freedom → Bool) (other : IsTrue (free Per.oth
         | inr i ↦ lacking_within l (n - (j + due k)) j hs p k w (here (n - (j + due k)) (inl (omega arith)) w) e v vs c (omega arith) dv dvs t
       ]
 
-  pub stuck_within : IsLawful s → (n : ℕ) (a b : State) → Takes al free a (further true) b → Absent n b → (c d : State) → TooFewMembers n a c → Takes al free c (further true) d → (v : Value) (vs : Values) (e : State) → depth v ≤ deepest → depth_of_members vs ≤ deepest → Chain (Takes al free) (presents s v ++ member_records (λ w. presents s w) vs) d e → ⊥
+  pub stuck_within : IsLawful s → (n : ℕ) (a b : State) → Takes al free a (further true) b → Absent n b → (c d : State) → TooFewMembers n a c →
+      Takes al free c (further true) d → (v : Value) (vs : Values) (e : State) → depth v ≤ deepest → depth_of_members vs ≤ deepest →
+      Chain (Takes al free) (presents s v ++ member_records (λ w. presents s w) vs) d e → ⊥
   stuck_within l n a b t h c d f g v vs e dv dvs q =
       let m = member_coming al free other order a.0 a.1 b t in
-      let i : d ≡ with_more f.0 b = (one_taken al free (with_more f.0 a) (further true) (further true) d (with_more f.0 b) refl (subst (λ x. Takes al free x (further true) d) f.1 g) (takes_more al free f.0 a (further true) b t)).1 in
+      let i : d ≡ with_more f.0 b =
+      (one_taken al free (with_more f.0 a) (further true) (further true) d (with_more f.0 b) refl
+      (subst (λ x. Takes al free x (further true) d) f.1 g) (takes_more al free f.0 a (further true) b t)).1 in
       let o : d ≡ with_more f.0 (b.0, members m.0 m.1 ∷ around a.1) = i ∙ ap (λ x. with_more f.0 x) m.2 in
       stuck_at l n m.0 m.1 b.0 (around a.1) (subst (λ x. Absent n x) m.2 h) f.0 f.2 v vs e dv dvs (subst (λ x. Chain (Takes al free) (presents s v ++ member_records (λ w. presents s w) vs) x e) o q)

@@ -3,7 +3,10 @@ use Rattle.std.proofs.Common.{◌≡◌, ℕ, ℤ, zero, suc, ◌+◌, ◌*◌, 
 use Rattle.std.proofs.lemmas.Bool.{and_parts, leb-true, eq-eqb}
 use Rattle.std.specs.Prelude.{flat_map}
 use Rattle.asn1_model.specs.Value.{Value, truth, nothing, number, item, bit_list, octet_list, text, arcs, members, bag, fields, chosen, Values, no_more, member, Parts, end, absent, present, each}
-use Rattle.asn1_model.specs.Schema.{Bounds, Range, Counts, Size, Alphabet, StringKind, Presence, Schema, cut, boolean, null, integer, enumerated, bit_string, octet_string, character_string, object_identifier, sequence_of, set_of, sequence, set, group, choice, Components, no_component, component, Alternatives, no_alternative, alternative}
+use Rattle.asn1_model.specs.Schema.{Bounds, Range, Counts, Size, Alphabet, StringKind, Presence, Schema, cut, boolean}
+use Rattle.asn1_model.specs.Schema.{null, integer, enumerated, bit_string, octet_string, character_string}
+use Rattle.asn1_model.specs.Schema.{object_identifier, sequence_of, set_of, sequence, set, group, choice, Components}
+use Rattle.asn1_model.specs.Schema.{no_component, component, Alternatives, no_alternative, alternative}
 use Rattle.asn1_model.specs.Numbers.{binary, digits, least_octets, octet_width, above, is_count_within}
 use Rattle.asn1_model.specs.Normal.{is_at_default, is_group_left_out, is_required, presence_bits}
 use Rattle.asn1_model.specs.Strings.{Run, place_of, may_hold, is_of_octets, permitted}
@@ -129,7 +132,9 @@ module _ (free : Per.Freedom → Bool) where
   steady_constrained_in : (most : ℕ) (al : Bool) (span d : ℕ) → St (Per.constrained_in most al span d)
   unfolding Per.constrained_in
   steady_constrained_in zero al span d = steady_refused
-  steady_constrained_in (suc most) al span d = steady_if (leb d span) (steady_cond (not al || ltb span 255) (steady_exactly _) (steady_cond (span == 255) (as_steady (full_at_octet al (full_exactly _ _))) (steady_cond (ltb span 65536) (as_steady (full_at_octet al (full_exactly _ _))) (as_steady (full_varied {c = Per.longer_number} (λ k. full_in_octets _ al span d k))))))
+  steady_constrained_in (suc most) al span d = steady_if (leb d span)
+      (steady_cond (not al || ltb span 255) (steady_exactly _) (steady_cond (span == 255) (as_steady (full_at_octet al (full_exactly _ _)))
+      (steady_cond (ltb span 65536) (as_steady (full_at_octet al (full_exactly _ _))) (as_steady (full_varied {c = Per.longer_number} (λ k. full_in_octets _ al span d k))))))
 
   steady_constrained : (al : Bool) (span d : ℕ) → St (Per.constrained al span d)
   unfolding Per.constrained
@@ -166,7 +171,8 @@ module _ (free : Per.Freedom → Bool) where
 
   steady_whole : (al : Bool) (low high : Option ℤ) (v : ℤ) → St (Per.whole_number al low high v)
   unfolding Per.whole_number
-  steady_whole al (Some low) (Some high) v = steady_given (above low high) {f = λ span. given (above low v) (λ d. Per.constrained al span d)} (λ span e. steady_given (above low v) (λ d f. steady_constrained al span d))
+  steady_whole al (Some low) (Some high) v = steady_given (above low high) {f = λ span. given (above low v) (λ d. Per.constrained al span d)}
+      (λ span e. steady_given (above low v) (λ d f. steady_constrained al span d))
   steady_whole al (Some low) None v = steady_given (above low v) (λ d e. as_steady (full_semi al d))
   steady_whole al None (Some high) v = steady_if _ (as_steady (full_unconstrained al v))
   steady_whole al None None v = as_steady (full_unconstrained al v)
@@ -210,10 +216,12 @@ module _ (free : Per.Freedom → Bool) where
   steady_sized al z held p us h k = steady_if _ (steady_extended z.extensible _ _ (steady_root al z.counts z.counts.high p us h (k z.counts)))
 
   steady_bits : (al : Bool) (z : Size) (held : Counts) (bs : List Bool) → St (Per.sized al z held (Per.string_has_padding 1 (length bs)) (Per.bit_units bs))
-  steady_bits al z held bs = steady_sized al z held _ _ (steady_units (λ b. exactly (b ∷ [])) (λ b. steady_exactly _) bs) (λ c e. full_units (λ b. exactly (b ∷ [])) (λ b. full_exactly b []) bs 1 (some_padding 1 (length bs) c e))
+  steady_bits al z held bs = steady_sized al z held _ _ (steady_units (λ b. exactly (b ∷ [])) (λ b. steady_exactly _) bs)
+      (λ c e. full_units (λ b. exactly (b ∷ [])) (λ b. full_exactly b []) bs 1 (some_padding 1 (length bs) c e))
 
   steady_octets : (al : Bool) (z : Size) (held : Counts) (os : List ℕ) → St (Per.sized al z held (Per.string_has_padding 8 (length os)) (Per.octet_units os))
-  steady_octets al z held os = steady_sized al z held _ _ (steady_units (λ o. exactly (binary 8 o)) (λ o. steady_exactly _) os) (λ c e. full_units (λ o. exactly (binary 8 o)) (λ o. full_exactly _ _) os 8 (some_padding 8 (length os) c e))
+  steady_octets al z held os = steady_sized al z held _ _ (steady_units (λ o. exactly (binary 8 o)) (λ o. steady_exactly _) os)
+      (λ c e. full_units (λ o. exactly (binary 8 o)) (λ o. full_exactly _ _) os 8 (some_padding 8 (length os) c e))
 
   -- ---- characters
   steady_character : (b : ℕ) (rs : List Run) (c : ℕ) → St (Per.character b rs c)
@@ -238,7 +246,8 @@ module _ (free : Per.Freedom → Bool) where
 
   steady_string : (al : Bool) (k : StringKind) (z : Size) (a : Alphabet) (held : Counts) (cs : List ℕ) → St (Per.string_form al k z a held cs)
   unfolding Per.string_form
-  steady_string al k z a held cs = steady_if (may_hold k cs) (steady_cond (is_of_octets k) (steady_if (is_count_within held (length cs)) (as_steady (full_counted_octets al cs))) (steady_characters al z held (permitted k a) cs))
+  steady_string al k z a held cs =
+      steady_if (may_hold k cs) (steady_cond (is_of_octets k) (steady_if (is_count_within held (length cs)) (as_steady (full_counted_octets al cs))) (steady_characters al z held (permitted k a) cs))
 
   -- ---- enumeration items
   steady_extension_bit : (e m : Bool) → St (Per.extension_bit_of e m)
@@ -269,7 +278,8 @@ module _ (free : Per.Freedom → Bool) where
   -- ---- components
   steady_spelled : (o : Presence) (s : Schema) (v : Value) (x : Per.BitForm) → St x → St (Per.spelled o s v x)
   unfolding Per.spelled
-  steady_spelled o s v x h = steady_cond (is_at_default o s v) (steady_varied {c = Per.default_spelled_out} (λ b. steady_if b h)) (steady_cond (is_group_left_out s v) (steady_varied {c = Per.empty_group} (λ b. steady_if b h)) h)
+  steady_spelled o s v x h = steady_cond (is_at_default o s v) (steady_varied {c = Per.default_spelled_out} (λ b. steady_if b h))
+      (steady_cond (is_group_left_out s v) (steady_varied {c = Per.empty_group} (λ b. steady_if b h)) h)
 
   full_with_additions : (al : Bool) (ms : List Bool) (root : Per.BitForm) (xs : List (Option Per.BitForm)) → Fu (Per.with_additions al ms root xs)
   unfolding Per.with_additions
@@ -278,7 +288,8 @@ module _ (free : Per.Freedom → Bool) where
   full_bitmapped : (al : Bool) (ms : List Bool) (root : Per.BitForm) (xs : List (Option Per.BitForm)) (b : Option Bitmap) → Fu (Per.bitmapped al ms root xs b)
   unfolding Per.bitmapped
   full_bitmapped al ms root xs None = full_if _ (full_first (full_exactly _ _))
-  full_bitmapped al ms root xs (Some b) = full_given (covered_by (λ os. Per.counted_octets al os) b xs) (λ all. full_cond (is_any_present all) (full_with_additions al ms root all) (full_varied {c = Per.empty_bitmap} (λ e. full_if e (full_with_additions al ms root all))))
+  full_bitmapped al ms root xs (Some b) = full_given (covered_by (λ os. Per.counted_octets al os) b xs)
+      (λ all. full_cond (is_any_present all) (full_with_additions al ms root all) (full_varied {c = Per.empty_bitmap} (λ e. full_if e (full_with_additions al ms root all))))
 
   steady_sequence : (al e : Bool) (ms : List Bool) (root : Per.BitForm) (xs : List (Option Per.BitForm)) → St root → St (Per.sequence_form al e ms root xs)
   unfolding Per.sequence_form
@@ -309,11 +320,14 @@ module _ (free : Per.Freedom → Bool) where
     steady_form al object_identifier v = steady_refused
     steady_form al (sequence_of z h s) (members vs) = steady_list al z h (λ v. Per.form al s v) (λ v. steady_form al s v) vs
     steady_form al (sequence_of z h s) v = steady_refused
-    steady_form al (set_of z h s) (bag vs) = subst (λ l. St (Per.in_any_order l (Per.sized al z h (λ c. false)))) (sym (each_is_map (λ v. Per.form al s v) vs)) (steady_bag al z h (λ v. Per.form al s v) (λ v. steady_form al s v) (listed vs))
+    steady_form al (set_of z h s) (bag vs) = subst (λ l. St (Per.in_any_order l (Per.sized al z h (λ c. false))))
+        (sym (each_is_map (λ v. Per.form al s v) vs)) (steady_bag al z h (λ v. Per.form al s v) (λ v. steady_form al s v) (listed vs))
     steady_form al (set_of z h s) v = steady_refused
-    steady_form al (sequence cs e adds) (fields ps qs) = steady_given (Per.addition_forms al adds qs) (λ xs i. steady_sequence al e (presence_bits cs ps) (Per.component_forms al cs ps) xs (steady_components al cs ps))
+    steady_form al (sequence cs e adds) (fields ps qs) = steady_given (Per.addition_forms al adds qs)
+        (λ xs i. steady_sequence al e (presence_bits cs ps) (Per.component_forms al cs ps) xs (steady_components al cs ps))
     steady_form al (sequence cs e adds) v = steady_refused
-    steady_form al (set cs e adds) (fields ps qs) = steady_given (Per.addition_forms al adds qs) (λ xs i. steady_sequence al e (presence_bits cs ps) (Per.component_forms al cs ps) xs (steady_components al cs ps))
+    steady_form al (set cs e adds) (fields ps qs) = steady_given (Per.addition_forms al adds qs)
+        (λ xs i. steady_sequence al e (presence_bits cs ps) (Per.component_forms al cs ps) xs (steady_components al cs ps))
     steady_form al (set cs e adds) v = steady_refused
     steady_form al (group cs) (fields ps end) = steady_both (steady_exactly _) (steady_components al cs ps)
     steady_form al (group cs) v = steady_refused

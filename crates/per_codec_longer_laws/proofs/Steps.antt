@@ -6,9 +6,15 @@ use Rattle.asn1_model.specs.Numbers.{binary, octet_bits}
 use Rattle.asn1_model.specs.Form.{exactly, both, joined, present_ones}
 use Rattle.asn1_model.specs.Per
 use Rattle.asn1_schema_reading_laws.specs.PresenceBits.{preamble_bits, first_bits}
-use Rattle.asn1_schema_laws.specs.Records.{Record, flag, nil, whole, one_of, bits, octets, characters, identifier, list_begins, bag_begins, further, sequence_begins, set_begins, group_begins, presence_bit, is_default, is_empty, additions_begin, addition, addition_ends, choice_begins, ends, mismatch}
+use Rattle.asn1_schema_laws.specs.Records.{Record, flag, nil, whole, one_of, bits, octets, characters, identifier}
+use Rattle.asn1_schema_laws.specs.Records.{list_begins, bag_begins, further, sequence_begins, set_begins, group_begins}
+use Rattle.asn1_schema_laws.specs.Records.{presence_bit, is_default, is_empty, additions_begin, addition, addition_ends}
+use Rattle.asn1_schema_laws.specs.Records.{choice_begins, ends, mismatch}
 use Rattle.per_codec_laws.specs.Sizes.{extension_bit, told_highest}
-use Rattle.per_codec_laws.specs.Takes.{Position, State, Tally, Scope, components, added, open_type, members, alternative, Front, Found, NextDeterminant, Counted, ListBegins, MemberDue, NextMember, Begins, NextPresenceBit, AdditionsBegin, Opens, Closes, NextAddition, AdditionEnds, unknown_forms, Chooses, Ends, Takes}
+use Rattle.per_codec_laws.specs.Takes.{Position, State, Tally, Scope, components, added, open_type, members}
+use Rattle.per_codec_laws.specs.Takes.{alternative, Front, Found, NextDeterminant, Counted, ListBegins, MemberDue}
+use Rattle.per_codec_laws.specs.Takes.{NextMember, Begins, NextPresenceBit, AdditionsBegin, Opens, Closes, NextAddition}
+use Rattle.per_codec_laws.specs.Takes.{AdditionEnds, unknown_forms, Chooses, Ends, Takes}
 use Rattle.per_codec_laws.proofs.Next.{state_same}
 use Rattle.per_codec_longer_laws.specs.More.{place_with, scopes_with, with_more, bits_behind, outermost}
 use Rattle.per_codec_longer_laws.proofs.Behind.{front_less, front_more, front_back}
@@ -35,12 +41,12 @@ module _ (al : Bool) (free : Per.Freedom → Bool) where
   begin_less e n a b f = pushed_less (exactly (preamble_bits f.0 f.1)) a.0 a.1 (components f.0 f.1 ∷ a.1) b f.4 f.5 refl
 
   determinant_less : (t : Tally) (k : List Scope) (a b : Position) (due : ℕ) (hs : Option Tally) → NextDeterminant al free t a b due hs → less (bits_behind b k) (bits_behind a k)
-  determinant_less t k a b due hs (inl f) = front_less free (Per.at_octet al (exactly (true ∷ true ∷ binary 6 f.0))) k a b f.2
-  determinant_less t k a b due hs (inr f) = front_less free (Per.short_length al due) k a b f.2
+  determinant_less t k a b due hs (inl f) = front_less free (Per.at_octet al (exactly (true ∷ true ∷ binary 6 f.0))) k a b f.3
+  determinant_less t k a b due hs (inr f) = front_less free (Per.short_length al due) k a b f.1
 
   count_less : (z : Size) (h : Counts) (out : Bool) (o : Option ℕ) (p : Position) (k : List Scope) (b : State) → Counted al free z h out o p k b → less (outermost b) (bits_behind p k)
   count_less z h out None p k b f =
-      subst (λ l. less (bits_behind b.0 l) (bits_behind p k)) (sym f.3) (determinant_less (record { size = z; held = h; outside = out; sizes = [] }) k p b.0 f.0 f.1 f.2)
+      subst (λ l. less (bits_behind b.0 l) (bits_behind p k)) (sym f.3) (determinant_less (record { size = z; held = h; outside = out; counted = 0; last = 4 }) k p b.0 f.0 f.1 f.2)
   count_less z h out (Some high) p k b f = pushed_less (Per.constrained al (high - z.counts.low) (f.0 - z.counts.low)) p k (members f.0 None ∷ k) b f.2 f.3 refl
 
   list_less : (z : Size) (h : Counts) (n : ℕ) (a b : State) → ListBegins al free z h n a b → less (outermost b) (outermost a)
@@ -129,7 +135,8 @@ module _ (al : Bool) (free : Per.Freedom → Bool) where
 
   module _ (e : List Bool) where
     -- after a prefix, in scopes without another open type
-    pushed_more : (x : Per.BitForm) (p : Position) (k l : List Scope) (b : State) → Front free x p b.0 → b.1 ≡ l → place_with e l b.0 ≡ place_with e k b.0 → Front free x (place_with e k p) (place_with e b.1 b.0)
+    pushed_more : (x : Per.BitForm) (p : Position) (k l : List Scope) (b : State) → Front free x p b.0 → b.1 ≡ l →
+        place_with e l b.0 ≡ place_with e k b.0 → Front free x (place_with e k p) (place_with e b.1 b.0)
     pushed_more x p k l b f q r = subst (λ i. Front free x (place_with e k p) i) (sym (ap (λ m. place_with e m b.0) q ∙ r)) (front_more free e x k p b.0 f)
 
     scopes_more : (b : State) (l : List Scope) → b.1 ≡ l → scopes_with e b.1 ≡ scopes_with e l
@@ -144,13 +151,15 @@ module _ (al : Bool) (free : Per.Freedom → Bool) where
     begin_more : (x : Bool) (n : ℕ) (a b : State) → Begins free x n a b → Begins free x n (with_more e a) (with_more e b)
     begin_more x n a b f = (f.0, f.1, f.2, f.3, pushed_more (exactly (preamble_bits f.0 f.1)) a.0 a.1 (components f.0 f.1 ∷ a.1) b f.4 f.5 refl, scopes_more b (components f.0 f.1 ∷ a.1) f.5)
 
-    determinant_more : (t : Tally) (k : List Scope) (a b : Position) (due : ℕ) (hs : Option Tally) → NextDeterminant al free t a b due hs → NextDeterminant al free t (place_with e k a) (place_with e k b) due hs
-    determinant_more t k a b due hs (inl f) = inl (f.0, f.1, front_more free e (Per.at_octet al (exactly (true ∷ true ∷ binary 6 f.0))) k a b f.2, f.3, f.4)
-    determinant_more t k a b due hs (inr f) = inr (f.0, f.1, front_more free e (Per.short_length al due) k a b f.2, f.3)
+    determinant_more : (t : Tally) (k : List Scope) (a b : Position) (due : ℕ) (hs : Option Tally) → NextDeterminant al free t a b due hs →
+        NextDeterminant al free t (place_with e k a) (place_with e k b) due hs
+    determinant_more t k a b due hs (inl f) = inl (f.0, f.1, f.2, front_more free e (Per.at_octet al (exactly (true ∷ true ∷ binary 6 f.0))) k a b f.3, f.4, f.5)
+    determinant_more t k a b due hs (inr f) = inr (f.0, front_more free e (Per.short_length al due) k a b f.1, f.2)
 
-    count_more : (z : Size) (h : Counts) (out : Bool) (o : Option ℕ) (p : Position) (k : List Scope) (b : State) → Counted al free z h out o p k b → Counted al free z h out o (place_with e k p) (scopes_with e k) (with_more e b)
+    count_more : (z : Size) (h : Counts) (out : Bool) (o : Option ℕ) (p : Position) (k : List Scope) (b : State) → Counted al free z h out o p k b →
+        Counted al free z h out o (place_with e k p) (scopes_with e k) (with_more e b)
     count_more z h out None p k b f =
-        let t : Tally = record { size = z; held = h; outside = out; sizes = [] } in
+        let t : Tally = record { size = z; held = h; outside = out; counted = 0; last = 4 } in
         (f.0, f.1, subst (λ l. NextDeterminant al free t (place_with e k p) (place_with e l b.0) f.0 f.1) (sym f.3) (determinant_more t k p b.0 f.0 f.1 f.2), scopes_more b (members f.0 f.1 ∷ k) f.3)
     count_more z h out (Some high) p k b f =
         (f.0, f.1, pushed_more (Per.constrained al (high - z.counts.low) (f.0 - z.counts.low)) p k (members f.0 None ∷ k) b f.2 f.3 refl, scopes_more b (members f.0 None ∷ k) f.3)
@@ -195,7 +204,8 @@ module _ (al : Bool) (free : Per.Freedom → Bool) where
     addition_end_more p k b f = absurd f
 
     choice_more : (roots : ℕ) (x : Bool) (others : ℕ) (v : Bool) (i : ℕ) (a b : State) → Chooses al free roots x others v i a b → Chooses al free roots x others v i (with_more e a) (with_more e b)
-    choice_more roots x others false i a b f = (f.0, pushed_more (both (Per.extension_bit_of x false) (Per.constrained al (roots - 1) i)) a.0 a.1 (alternative ∷ a.1) b f.1 f.2 refl, scopes_more b (alternative ∷ a.1) f.2)
+    choice_more roots x others false i a b f =
+        (f.0, pushed_more (both (Per.extension_bit_of x false) (Per.constrained al (roots - 1) i)) a.0 a.1 (alternative ∷ a.1) b f.1 f.2 refl, scopes_more b (alternative ∷ a.1) f.2)
     choice_more roots x others true i a b f = (f.0, f.1, place_with e a.1 f.2, front_more free e (both (exactly (true ∷ [])) (Per.normally_small al i)) a.1 a.0 f.2 f.3, open_more f.2 a.1 b f.4)
 
     end_more : (p : Position) (k : List Scope) (b : State) → Ends al free p k b → Ends al free (place_with e k p) (scopes_with e k) (with_more e b)
@@ -236,7 +246,9 @@ module _ (al : Bool) (free : Per.Freedom → Bool) where
     Back c p = (b : State) × (c ≡ with_more e b) × p b
 
     -- after a prefix, in scopes without another open type
-    pushed_back : (x : Per.BitForm) (p : Position) (k l : List Scope) (c : State) → Front free x (place_with e k p) c.0 → c.1 ≡ scopes_with e l → bits_behind c.0 (scopes_with e l) ≡ bits_behind c.0 (scopes_with e k) → ((r : Position) → place_with e k r ≡ place_with e l r) → less e (outermost c) → Back c (λ b. Front free x p b.0 × (b.1 ≡ l))
+    pushed_back : (x : Per.BitForm) (p : Position) (k l : List Scope) (c : State) → Front free x (place_with e k p) c.0 → c.1 ≡ scopes_with e l →
+        bits_behind c.0 (scopes_with e l) ≡ bits_behind c.0 (scopes_with e k) → ((r : Position) → place_with e k r ≡ place_with e l r) →
+        less e (outermost c) → Back c (λ b. Front free x p b.0 × (b.1 ≡ l))
     pushed_back x p k l c f q r s h =
         let z = front_back free e x k p c.0 f (subst (λ i. less e i) (ap (λ m. bits_behind c.0 m) q ∙ r) h) in
         ((z.0, l), state_same c (with_more e (z.0, l)) (z.1 ∙ s z.0) q, (z.2, refl))
@@ -249,17 +261,19 @@ module _ (al : Bool) (free : Per.Freedom → Bool) where
         let z = pushed_back (exactly (preamble_bits f.0 f.1)) a.0 a.1 (components f.0 f.1 ∷ a.1) c f.4 f.5 refl (λ r. refl) h in
         (z.0, z.1, (f.0, f.1, f.2, f.3, z.2.0, z.2.1))
 
-    determinant_back : (t : Tally) (k : List Scope) (a r : Position) (due : ℕ) (hs : Option Tally) → NextDeterminant al free t (place_with e k a) r due hs → less e (bits_behind r (scopes_with e k)) → (b : Position) × (r ≡ place_with e k b) × NextDeterminant al free t a b due hs
+    determinant_back : (t : Tally) (k : List Scope) (a r : Position) (due : ℕ) (hs : Option Tally) →
+        NextDeterminant al free t (place_with e k a) r due hs → less e (bits_behind r (scopes_with e k)) → (b : Position) × (r ≡ place_with e k b) × NextDeterminant al free t a b due hs
     determinant_back t k a r due hs (inl f) h =
-        let z = front_back free e (Per.at_octet al (exactly (true ∷ true ∷ binary 6 f.0))) k a r f.2 h in
-        (z.0, z.1, inl (f.0, f.1, z.2, f.3, f.4))
+        let z = front_back free e (Per.at_octet al (exactly (true ∷ true ∷ binary 6 f.0))) k a r f.3 h in
+        (z.0, z.1, inl (f.0, f.1, f.2, z.2, f.4, f.5))
     determinant_back t k a r due hs (inr f) h =
-        let z = front_back free e (Per.short_length al due) k a r f.2 h in
-        (z.0, z.1, inr (f.0, f.1, z.2, f.3))
+        let z = front_back free e (Per.short_length al due) k a r f.1 h in
+        (z.0, z.1, inr (f.0, z.2, f.2))
 
-    count_back : (z : Size) (i : Counts) (out : Bool) (o : Option ℕ) (p : Position) (k : List Scope) (c : State) → Counted al free z i out o (place_with e k p) (scopes_with e k) c → less e (outermost c) → Back c (λ b. Counted al free z i out o p k b)
+    count_back : (z : Size) (i : Counts) (out : Bool) (o : Option ℕ) (p : Position) (k : List Scope) (c : State) →
+        Counted al free z i out o (place_with e k p) (scopes_with e k) c → less e (outermost c) → Back c (λ b. Counted al free z i out o p k b)
     count_back z i out None p k c f h =
-        let t : Tally = record { size = z; held = i; outside = out; sizes = [] } in
+        let t : Tally = record { size = z; held = i; outside = out; counted = 0; last = 4 } in
         let y = determinant_back t k p c.0 f.0 f.1 f.2 (subst (λ l. less e (bits_behind c.0 l)) f.3 h) in
         ((y.0, members f.0 f.1 ∷ k), state_same c (with_more e (y.0, members f.0 f.1 ∷ k)) y.1 f.3, (f.0, f.1, y.2, refl))
     count_back z i out (Some high) p k c f h =
@@ -292,7 +306,8 @@ module _ (al : Bool) (free : Per.Freedom → Bool) where
     presence_bit_back v p (components x (m ∷ ms) ∷ k) c f = ((p, components x ms ∷ k), f.1, (f.0, refl))
     presence_bit_back v p k c f = absurd f
 
-    additions_back : (n : ℕ) (p : Position) (k : List Scope) (c : State) → AdditionsBegin al free n (place_with e k p) (scopes_with e k) c → less e (outermost c) → Back c (λ b. AdditionsBegin al free n p k b)
+    additions_back : (n : ℕ) (p : Position) (k : List Scope) (c : State) → AdditionsBegin al free n (place_with e k p) (scopes_with e k) c →
+        less e (outermost c) → Back c (λ b. AdditionsBegin al free n p k b)
     additions_back n p (components (Some false) [] ∷ k) c f h = ((p, added (first_bits n []) [] ∷ k), f, refl)
     additions_back n p (components (Some true) [] ∷ k) c f h =
         let z = pushed_back (Per.normally_few al (Per.bit_units f.0)) p k (added (first_bits n f.0) (drop n f.0) ∷ k) c f.2 f.3 refl (λ r. refl) h in
@@ -307,7 +322,8 @@ module _ (al : Bool) (free : Per.Freedom → Bool) where
     close_back : (p rest : Position) (k : List Scope) (c : State) → Closes free p (place_with e k rest) (scopes_with e k) c → Back c (λ b. Closes free p rest k b)
     close_back p rest k c f = ((rest, k), f.6, (f.0, f.1, f.2, f.3, f.4, f.5, refl))
 
-    addition_back : (v : Bool) (p : Position) (k : List Scope) (c : State) → NextAddition al free v (place_with e k p) (scopes_with e k) c → less e (outermost c) → Back c (λ b. NextAddition al free v p k b)
+    addition_back : (v : Bool) (p : Position) (k : List Scope) (c : State) → NextAddition al free v (place_with e k p) (scopes_with e k) c →
+        less e (outermost c) → Back c (λ b. NextAddition al free v p k b)
     addition_back v p (added (false ∷ ms) us ∷ k) c f h = ((p, added ms us ∷ k), f.1, (f.0, refl))
     addition_back v p (added (true ∷ ms) us ∷ k) c f h = let z = open_back p (added ms us ∷ k) c f.1 h in (z.0, z.1, (f.0, z.2))
     addition_back v p k c f h = absurd f
@@ -316,7 +332,8 @@ module _ (al : Bool) (free : Per.Freedom → Bool) where
     addition_end_back p (open_type rest ∷ added ms us ∷ k) c f = close_back p rest (added ms us ∷ k) c f
     addition_end_back p k c f = absurd f
 
-    choice_back : (roots : ℕ) (x : Bool) (others : ℕ) (v : Bool) (i : ℕ) (a c : State) → Chooses al free roots x others v i (with_more e a) c → less e (outermost c) → Back c (λ b. Chooses al free roots x others v i a b)
+    choice_back : (roots : ℕ) (x : Bool) (others : ℕ) (v : Bool) (i : ℕ) (a c : State) → Chooses al free roots x others v i (with_more e a) c →
+        less e (outermost c) → Back c (λ b. Chooses al free roots x others v i a b)
     choice_back roots x others false i a c f h =
         let z = pushed_back (both (Per.extension_bit_of x false) (Per.constrained al (roots - 1) i)) a.0 a.1 (alternative ∷ a.1) c f.1 f.2 refl (λ r. refl) h in
         (z.0, z.1, (f.0, z.2.0, z.2.1))

@@ -1,5 +1,7 @@
 -- Field-lists that are added in sequence.
-use Rattle.std.proofs.Common.{◌≡◌, ℕ, ◌==◌, Bool, true, false, cond, List, ◌∷◌, ◌++◌, length, replicate, Option, Some, None, option_map, option_and_then, refl, ap, subst, sym, ◌∙◌, append_assoc, length-append, eq-eqb}
+use Rattle.std.proofs.Common.{◌≡◌, ℕ, ◌==◌, Bool, true, false, cond, List, ◌∷◌, ◌++◌, length, replicate, Option, Some}
+use Rattle.std.proofs.Common.{None, option_map, option_and_then, refl, ap, subst, sym, ◌∙◌, append_assoc, length-append}
+use Rattle.std.proofs.Common.{eq-eqb}
 use Rattle.std.proofs.lemmas.List.{length-replicate}
 use Rattle.asn1_model.specs.Numbers.{missing}
 use Rattle.asn1_model.specs.Form.{exactly, only_if, both, placed}
@@ -38,7 +40,8 @@ pub both_field_list : (x y : Per.BitForm) (q : Option ℕ) (a b : FieldList) →
 unfolding field_list_at
 both_field_list x y q a b e f = ap (λ o. option_and_then (λ c. option_map (λ d. c ++ d) (field_list_at y (on q c))) o) e ∙ ap (option_map (λ d. a ++ d)) f
 
-pub adds_both : (x y : Per.BitForm) (old mid new : Packed) → Adds (field_list_at x (place old)) old mid → Adds (field_list_at y (place mid)) mid new → Adds (field_list_at (both x y) (place old)) old new
+pub adds_both : (x y : Per.BitForm) (old mid new : Packed) → Adds (field_list_at x (place old)) old mid → Adds (field_list_at y (place mid)) mid new →
+    Adds (field_list_at (both x y) (place old)) old new
 adds_both x y old mid new a b =
     let p = added (field_list_at x (place old)) old mid a in
     let q = added (field_list_at y (place mid)) mid new b in
@@ -82,8 +85,10 @@ adds_padding old new e = adds_field_list _ (padding_at (place old)) old new (pad
 pub adds_form_bits : (l : List Bool) (old new : Packed) → new ≡ plus old (as_field_list l) → Adds (field_list_at (as_form (as_field_list l)) (place old)) old new
 adds_form_bits l old new e = adds_field_list _ (as_field_list l) old new (sym (form_of_bits l (place old))) e
 
-pub adds_forms : (a b : FieldList) (old mid new : Packed) → Adds (field_list_at (as_form a) (place old)) old mid → Adds (field_list_at (as_form b) (place mid)) mid new → Adds (field_list_at (as_form (a ++ b)) (place old)) old new
+pub adds_forms : (a b : FieldList) (old mid new : Packed) → Adds (field_list_at (as_form a) (place old)) old mid →
+    Adds (field_list_at (as_form b) (place mid)) mid new → Adds (field_list_at (as_form (a ++ b)) (place old)) old new
 adds_forms a b old mid new h k = adds_same _ _ old new (as_form-append a b (place old)) (adds_both (as_form a) (as_form b) old mid new h k)
 
-pub adds_form_padding : (t : FieldList) (old mid new : Packed) → mid ≡ plus old (padding_at (place old)) → Adds (field_list_at (as_form t) (place mid)) mid new → Adds (field_list_at (as_form (padding ∷ t)) (place old)) old new
+pub adds_form_padding : (t : FieldList) (old mid new : Packed) → mid ≡ plus old (padding_at (place old)) →
+    Adds (field_list_at (as_form t) (place mid)) mid new → Adds (field_list_at (as_form (padding ∷ t)) (place old)) old new
 adds_form_padding t old mid new e a = adds_both (placed (λ p. Per.padding (missing p))) (as_form t) old mid new (adds_padding old mid e) a

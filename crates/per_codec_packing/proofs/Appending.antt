@@ -21,7 +21,8 @@ module _ (bits : List Bool) (from f : ℕ) (fs : List ℕ) (a : Ascend from (f �
   next_within = goes_up f (length bits) fs a.1
 
   -- the bits up to the next position, padding there, and what follows
-  piece : (w : List Bool) (old mid padded new : Packed) → w ≡ drop from (take f bits) → mid ≡ plus old (as_field_list w) → padded ≡ plus mid (padding_at (place mid)) → Comes bits fs f padded new → Comes bits (f ∷ fs) from old new
+  piece : (w : List Bool) (old mid padded new : Packed) → w ≡ drop from (take f bits) → mid ≡ plus old (as_field_list w) →
+      padded ≡ plus mid (padding_at (place mid)) → Comes bits fs f padded new → Comes bits (f ∷ fs) from old new
   piece w old mid padded new e g h k =
       let reach : f ≡ from + (f - from) = omega (arith, a.0) in
       let part : w ≡ take (f - from) (drop from bits) = e ∙ ap (λ n. drop from (take n bits)) reach ∙ drop-take from (f - from) bits in
@@ -44,7 +45,8 @@ module _ (bits : List Bool) (paddings : List ℕ) (from done : ℕ) (old now : P
     pub not_past : f ≤ length bits
     not_past = next_within bits from f (drop (done + 1) paddings) ascending
 
-    pub one_piece : (w : List Bool) (mid padded : Packed) → w ≡ drop from (take f bits) → mid ≡ plus now (as_field_list w) → padded ≡ plus mid (padding_at (place mid)) → IsAdded bits paddings f (done + 1) old padded
+    pub one_piece : (w : List Bool) (mid padded : Packed) → w ≡ drop from (take f bits) → mid ≡ plus now (as_field_list w) →
+        padded ≡ plus mid (padding_at (place mid)) → IsAdded bits paddings f (done + 1) old padded
     one_piece w mid padded d g k = record {
       ascend = ascending.1;
       rest = λ new c. i.rest new (subst (λ l. Comes bits l from now new) (sym split) (piece bits from f (drop (done + 1) paddings) ascending w now mid padded new d g k c));

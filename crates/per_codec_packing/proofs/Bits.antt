@@ -26,5 +26,6 @@ changed_front (suc i) b (c ∷ l) t h = ap (λ u. bit c ∷ u) (changed_front i 
 
 pub changed_behind : (i : ℕ) (b : Bool) (s t : FieldList) → with_bit (length (solid s) + i) b (s ++ t) ≡ s ++ with_bit i b t
 changed_behind i b [] t = let e : 0 + i ≡ i = omega arith in ap (λ k. with_bit k b t) e
-changed_behind i b (bit c ∷ s) t = let e : length (solid (bit c ∷ s)) + i ≡ suc (length (solid s) + i) = omega arith in ap (λ k. with_bit k b (bit c ∷ s ++ t)) e ∙ ap (λ u. bit c ∷ u) (changed_behind i b s t)
+changed_behind i b (bit c ∷ s) t = let e : length (solid (bit c ∷ s)) + i ≡ suc (length (solid s) + i) = omega arith in
+    ap (λ k. with_bit k b (bit c ∷ s ++ t)) e ∙ ap (λ u. bit c ∷ u) (changed_behind i b s t)
 changed_behind i b (padding ∷ s) t = ap (λ u. padding ∷ u) (changed_behind i b s t)

@@ -16,7 +16,8 @@ pub bits_at_start : (o : Option (List Bool)) (w : FieldList) → option_map as_f
 bits_at_start None w e = cc
 bits_at_start (Some l) w e = let f : as_field_list l ≡ w = cc in ap Some (sym (solid-bits l) ∙ ap solid f)
 
-pub alone : (t : FieldList) (nothing all : Packed) → nothing ≡ record { field_list = []; placed = true } → Adds (field_list_at (as_form t) (place nothing)) nothing all → written (as_form t) 0 ≡ Some (solid all.field_list)
+pub alone : (t : FieldList) (nothing all : Packed) → nothing ≡ record { field_list = []; placed = true } →
+    Adds (field_list_at (as_form t) (place nothing)) nothing all → written (as_form t) 0 ≡ Some (solid all.field_list)
 alone t nothing all e a =
     let p = added (field_list_at (as_form t) (place nothing)) nothing all a in
     let w : p.0 ≡ all.field_list = ap (λ (q : Packed). q.field_list ++ p.0) (sym e) ∙ ap (λ (q : Packed). q.field_list) p.2 in
@@ -24,7 +25,8 @@ alone t nothing all e a =
 
 padding_written : (n p : ℕ) → written (Per.padding n) p ≡ Some (replicate n false)
 unfolding Per.padding written
-padding_written n p = let h : (length (replicate n false) == n) ≡ true = eq-eqb _ _ (length-replicate n false) in ap (λ (t : Bool). written (only_if {F = Per.Freedom} {D = Per.Detail} t (exactly (replicate n false))) p) h
+padding_written n p = let h : (length (replicate n false) == n) ≡ true = eq-eqb _ _ (length-replicate n false) in
+    ap (λ (t : Bool). written (only_if {F = Per.Freedom} {D = Per.Detail} t (exactly (replicate n false))) p) h
 
 some_padded : (b : Bool) (bs : List Bool) → written (Per.padded (b ∷ bs)) 0 ≡ Some (padded (b ∷ bs))
 unfolding Per.padded written

@@ -44,14 +44,16 @@ module _ (n : ℕ) (bits : List Bool) (h : n ≤ length bits) (t : FieldList) wh
 
   solid_past : (u : FieldList) → length (solid (as_field_list (take n bits) ++ u)) ≡ n + length (solid u)
   solid_past u =
-      ap length (solid-append (as_field_list (take n bits)) u ∙ ap (λ l. l ++ solid u) (solid-bits (take n bits))) ∙ length-append (take n bits) (solid u) ∙ ap (λ k. k + length (solid u)) (length-take-le n bits h)
+      ap length (solid-append (as_field_list (take n bits)) u ∙ ap (λ l. l ++ solid u) (solid-bits (take n bits))) ∙
+      length-append (take n bits) (solid u) ∙ ap (λ k. k + length (solid u)) (length-take-le n bits h)
 
 -- bits alone
 bits_front : (m : ℕ) (bits : List Bool) → take m (as_field_list bits) ≡ as_field_list (take m bits)
 bits_front m bits = take-map (λ b. bit b) m bits
 
 -- a prefix of bits alone, by the count of its bits
-no_padding : (from m : ℕ) (bits : List Bool) (fs : List ℕ) → Ascend from fs (from + length bits) → length (solid (take m (spread from bits fs))) ≡ m → take m (spread from bits fs) ≡ as_field_list (take m bits)
+no_padding : (from m : ℕ) (bits : List Bool) (fs : List ℕ) → Ascend from fs (from + length bits) → length (solid (take m (spread from bits fs))) ≡ m →
+    take m (spread from bits fs) ≡ as_field_list (take m bits)
 no_padding from m bits [] a e = bits_front m bits
 no_padding from m bits (f ∷ fs) a e = elim (cases_lt (f - from) m) [
   | inr l ↦ within_bits (f - from) bits (reaches from f bits fs a) (padding ∷ spread f (drop (f - from) bits) fs) m l
@@ -61,7 +63,9 @@ no_padding from m bits (f ∷ fs) a e = elim (cases_lt (f - from) m) [
       let rest : FieldList = spread f (drop n bits) fs in
       let k : ℕ = m - n - 1 in
       let split : m ≡ n + suc k = omega (arith, l) in
-      let parts : length (solid (take m (spread from bits (f ∷ fs)))) ≡ n + length (solid (take k rest)) = ap (λ j. length (solid (take j (spread from bits (f ∷ fs))))) split ∙ ap (λ t. length (solid t)) (past_bits n bits h (padding ∷ rest) (suc k)) ∙ solid_past n bits h (padding ∷ rest) (padding ∷ take k rest) in
+      let parts : length (solid (take m (spread from bits (f ∷ fs)))) ≡ n + length (solid (take k rest)) =
+      ap (λ j. length (solid (take j (spread from bits (f ∷ fs))))) split ∙
+      ap (λ t. length (solid t)) (past_bits n bits h (padding ∷ rest) (suc k)) ∙ solid_past n bits h (padding ∷ rest) (padding ∷ take k rest) in
       absurd (omega (arith, parts, e, split, solid-short (take k rest), length-take k rest))
 ]
 
@@ -73,7 +77,8 @@ none_taken : {X : Type 0} (xs : List X) → take 0 xs ≡ []
 none_taken [] = refl
 none_taken (x ∷ xs) = refl
 
-cut : (from b f : ℕ) (bits : List Bool) (fs : List ℕ) → Ascend from fs (from + length bits) → b + f ≤ length (spread from bits fs) → length (solid (take (b + f) (spread from bits fs))) ≡ b → Cut from b f bits fs
+cut : (from b f : ℕ) (bits : List Bool) (fs : List ℕ) → Ascend from fs (from + length bits) → b + f ≤ length (spread from bits fs) →
+    length (solid (take (b + f) (spread from bits fs))) ≡ b → Cut from b f bits fs
 cut from b zero bits fs a l e =
     let z : b + 0 ≡ b = omega arith in
     let t : length (solid (take b (spread from bits fs))) ≡ b = ap (λ k. length (solid (take k (spread from bits fs)))) (sym z) ∙ e in
@@ -82,13 +87,16 @@ cut from b zero bits fs a l e =
       ascend = subst (λ k. Ascend from k (from + length (take b bits))) (sym (none_taken fs)) (omega arith);
     }
 cut from b (suc f) bits [] a l e =
-    let t : length (solid (take (b + suc f) (as_field_list bits))) ≡ b + suc f = ap (λ x. length (solid x)) (bits_front (b + suc f) bits) ∙ ap length (solid-bits (take (b + suc f) bits)) ∙ length-take-le (b + suc f) bits (omega (arith, l, length-field_list bits)) in
+    let t : length (solid (take (b + suc f) (as_field_list bits))) ≡ b + suc f = ap (λ x. length (solid x)) (bits_front (b + suc f) bits) ∙
+    ap length (solid-bits (take (b + suc f) bits)) ∙ length-take-le (b + suc f) bits (omega (arith, l, length-field_list bits)) in
     absurd (omega (arith, t, e))
 cut from b (suc f) bits (g ∷ gs) a l e = elim (cases_lt (g - from) (b + suc f)) [
   | inr k ↦
       let n = g - from in
       let h = reaches from g bits gs a in
-      let t : length (solid (take (b + suc f) (spread from bits (g ∷ gs)))) ≡ b + suc f = ap (λ x. length (solid x)) (within_bits n bits h (padding ∷ spread g (drop n bits) gs) (b + suc f) k) ∙ ap length (solid-bits (take (b + suc f) bits)) ∙ length-take-le (b + suc f) bits (omega (arith, k, h)) in
+      let t : length (solid (take (b + suc f) (spread from bits (g ∷ gs)))) ≡ b + suc f =
+      ap (λ x. length (solid x)) (within_bits n bits h (padding ∷ spread g (drop n bits) gs) (b + suc f) k) ∙
+      ap length (solid-bits (take (b + suc f) bits)) ∙ length-take-le (b + suc f) bits (omega (arith, k, h)) in
       absurd (omega (arith, t, e))
   | inl k ↦
       let n = g - from in
@@ -97,7 +105,8 @@ cut from b (suc f) bits (g ∷ gs) a l e = elim (cases_lt (g - from) (b + suc f)
       let c : ℕ = b - n in
       let parts : length (solid (take (b + suc f) (spread from bits (g ∷ gs)))) ≡ n + length (solid (take (b + f - n) rest)) =
       let split : b + suc f ≡ n + suc (b + f - n) = omega (arith, k) in
-      ap (λ j. length (solid (take j (spread from bits (g ∷ gs))))) split ∙ ap (λ t. length (solid t)) (past_bits n bits h (padding ∷ rest) (suc (b + f - n))) ∙ solid_past n bits h (padding ∷ rest) (padding ∷ take (b + f - n) rest) in
+      ap (λ j. length (solid (take j (spread from bits (g ∷ gs))))) split ∙
+      ap (λ t. length (solid t)) (past_bits n bits h (padding ∷ rest) (suc (b + f - n))) ∙ solid_past n bits h (padding ∷ rest) (padding ∷ take (b + f - n) rest) in
       let enough : n ≤ b = omega (arith, parts, e) in
       let same : b + f - n ≡ c + f = omega (arith, enough) in
       let whole : b ≡ n + c = omega (arith, enough) in
@@ -113,7 +122,11 @@ cut from b (suc f) bits (g ∷ gs) a l e = elim (cases_lt (g - from) (b + suc f)
             ∙ ap (λ x. as_field_list (take n bits) ++ padding ∷ x) (i.is ∙ ap (λ j. take j rest) (sym same))
             ∙ sym (past_bits n bits h (padding ∷ rest) (suc (b + f - n)))
             ∙ ap (λ j. take j (as_field_list (take n bits) ++ padding ∷ rest)) (let s : n + suc (b + f - n) ≡ b + suc f = omega (arith, enough) in s);
-        ascend = (a.0, up_to g (g + length (take c (drop n bits))) (from + length (take b bits)) (take f gs) (omega (arith, a.0, length-take c (drop n bits), length-drop n bits, length-take b bits, h, whole)) i.ascend);
+        ascend = (
+          a.0,
+          up_to g (g + length (take c (drop n bits))) (from + length (take b bits)) (take f gs)
+              (omega (arith, a.0, length-take c (drop n bits), length-drop n bits, length-take b bits, h, whole)) i.ascend,
+        );
       }
 ]
 

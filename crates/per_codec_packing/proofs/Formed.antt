@@ -18,7 +18,8 @@ in_turn None f g = refl
 in_turn (Some x) f g = refl
 
 -- two field-lists in sequence
-pub two_field_lists : {S : Type 0} (o : Option FieldList) (q : FieldList → Option FieldList) (os : FieldList) (f : FieldList → Option S) → option_and_then (λ a. option_and_then (λ b. f ((os ++ a) ++ b)) (q a)) o ≡ option_and_then (λ w. f (os ++ w)) (option_and_then (λ a. option_map (λ b. a ++ b) (q a)) o)
+pub two_field_lists : {S : Type 0} (o : Option FieldList) (q : FieldList → Option FieldList) (os : FieldList) (f : FieldList → Option S) →
+    option_and_then (λ a. option_and_then (λ b. f ((os ++ a) ++ b)) (q a)) o ≡ option_and_then (λ w. f (os ++ w)) (option_and_then (λ a. option_map (λ b. a ++ b) (q a)) o)
 two_field_lists None q os f = refl
 two_field_lists (Some a) q os f = go (q a)
   where
@@ -49,7 +50,8 @@ pub both_assoc : (x y z : Per.BitForm) (q : Option ℕ) → field_list_at (both 
 unfolding field_list_at
 both_assoc x y z q = outer (field_list_at x q)
   where
-    inner : (a : FieldList) (o : Option FieldList) → option_and_then (λ c. option_map (λ b. c ++ b) (field_list_at z (on q c))) (option_map (λ b. a ++ b) o) ≡ option_map (λ b. a ++ b) (option_and_then (λ c. option_map (λ b. c ++ b) (field_list_at z (on (on q a) c))) o)
+    inner : (a : FieldList) (o : Option FieldList) → option_and_then (λ c. option_map (λ b. c ++ b) (field_list_at z (on q c)))
+        (option_map (λ b. a ++ b) o) ≡ option_map (λ b. a ++ b) (option_and_then (λ c. option_map (λ b. c ++ b) (field_list_at z (on (on q a) c))) o)
     inner a None = refl
     inner a (Some c) = ap (λ n. option_map (λ b. (a ++ c) ++ b) (field_list_at z n)) (behind q a c) ∙ go (field_list_at z (on (on q a) c))
       where
@@ -57,7 +59,9 @@ both_assoc x y z q = outer (field_list_at x q)
         go None = refl
         go (Some d) = ap Some (append_assoc a c d)
 
-    outer : (o : Option FieldList) → option_and_then (λ c. option_map (λ b. c ++ b) (field_list_at z (on q c))) (option_and_then (λ a. option_map (λ b. a ++ b) (field_list_at y (on q a))) o) ≡ option_and_then (λ a. option_map (λ b. a ++ b) (option_and_then (λ c. option_map (λ b. c ++ b) (field_list_at z (on (on q a) c))) (field_list_at y (on q a)))) o
+    outer : (o : Option FieldList) → option_and_then (λ c. option_map (λ b. c ++ b) (field_list_at z (on q c)))
+        (option_and_then (λ a. option_map (λ b. a ++ b) (field_list_at y (on q a))) o) ≡ option_and_then
+        (λ a. option_map (λ b. a ++ b) (option_and_then (λ c. option_map (λ b. c ++ b) (field_list_at z (on (on q a) c))) (field_list_at y (on q a)))) o
     outer None = refl
     outer (Some a) = inner a (field_list_at y (on q a))
 
@@ -82,14 +86,18 @@ known (both x y) p = ap (option_and_then (λ a. option_map (λ b. a ++ b) (field
     ends a None = refl
     ends a (Some b) = ap Some (as_field_list-append a b)
 
-    go : (o : Option (List Bool)) → ((n : ℕ) → field_list_at y (Some n) ≡ option_map as_field_list (written y n)) → option_and_then (λ a. option_map (λ b. a ++ b) (field_list_at y (on (Some p) a))) (option_map as_field_list o) ≡ option_map as_field_list (option_and_then (λ a. option_map (λ b. a ++ b) (written y (p + length a))) o)
+    go : (o : Option (List Bool)) → ((n : ℕ) → field_list_at y (Some n) ≡ option_map as_field_list (written y n)) →
+        option_and_then (λ a. option_map (λ b. a ++ b) (field_list_at y (on (Some p) a))) (option_map as_field_list o)
+        ≡ option_map as_field_list (option_and_then (λ a. option_map (λ b. a ++ b) (written y (p + length a))) o)
     go None h = refl
-    go (Some a) h = ap (λ n. option_map (λ b. as_field_list a ++ b) (field_list_at y (Some (p + n)))) (length-field_list a) ∙ ap (option_map (λ b. as_field_list a ++ b)) (h (p + length a)) ∙ ends a (written y (p + length a))
+    go (Some a) h = ap (λ n. option_map (λ b. as_field_list a ++ b) (field_list_at y (Some (p + n)))) (length-field_list a) ∙
+        ap (option_map (λ b. as_field_list a ++ b)) (h (p + length a)) ∙ ends a (written y (p + length a))
 known (placed f) p = known (f p) p
 known (varied c d f) p = known (f d) p
 known (within x f) p = go (written x 0) (λ w. known (f w) p)
   where
-    go : (o : Option (List Bool)) → ((w : List Bool) → field_list_at (f w) (Some p) ≡ option_map as_field_list (written (f w) p)) → option_and_then (λ w. field_list_at (f w) (Some p)) o ≡ option_map as_field_list (option_and_then (λ w. written (f w) p) o)
+    go : (o : Option (List Bool)) → ((w : List Bool) → field_list_at (f w) (Some p) ≡ option_map as_field_list (written (f w) p)) →
+        option_and_then (λ w. field_list_at (f w) (Some p)) o ≡ option_map as_field_list (option_and_then (λ w. written (f w) p) o)
     go None h = refl
     go (Some w) h = h w
 

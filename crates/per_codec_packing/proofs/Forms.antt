@@ -14,7 +14,10 @@ as_form-append [] b q = same (field_list_at (as_form b) q) ∙ ap (λ p. option_
     same None = refl
     same (Some w) = refl
 as_form-append (bit c ∷ a) b q = ap (option_map (λ d. bit c ∷ d)) (as_form-append a b (moved q 1)) ∙ sym (both_assoc (exactly (c ∷ [])) (as_form a) (as_form b) q)
-as_form-append (padding ∷ a) b q = chain_same (field_list_at (placed (λ p. Per.padding (Per.missing p))) q) (λ d. option_map (λ e. d ++ e) (field_list_at (as_form (a ++ b)) (on q d))) (λ d. option_map (λ e. d ++ e) (field_list_at (both (as_form a) (as_form b)) (on q d))) (λ d. ap (option_map (λ e. d ++ e)) (as_form-append a b (on q d))) ∙ sym (both_assoc (placed (λ p. Per.padding (Per.missing p))) (as_form a) (as_form b) q)
+as_form-append (padding ∷ a) b q = chain_same (field_list_at (placed (λ p. Per.padding (Per.missing p))) q)
+    (λ d. option_map (λ e. d ++ e) (field_list_at (as_form (a ++ b)) (on q d)))
+    (λ d. option_map (λ e. d ++ e) (field_list_at (both (as_form a) (as_form b)) (on q d))) (λ d.
+    ap (option_map (λ e. d ++ e)) (as_form-append a b (on q d))) ∙ sym (both_assoc (placed (λ p. Per.padding (Per.missing p))) (as_form a) (as_form b) q)
 
 pub form_of_bits : (l : List Bool) (q : Option ℕ) → Some (as_field_list l) ≡ field_list_at (as_form (as_field_list l)) q
 unfolding field_list_at

@@ -1,5 +1,7 @@
 -- What is stored shows the field-list.
-use Rattle.std.proofs.Common.{◌≡◌, ℕ, ◌+◌, ◌-◌, ◌%◌, ◌≤◌, Bool, true, false, cond, List, [], ◌∷◌, ◌++◌, length, take, replicate, set, get_or, Some, None, refl, ap, sym, subst, ◌∙◌, append-nil, length-append, length-set, arith}
+use Rattle.std.proofs.Common.{◌≡◌, ℕ, ◌+◌, ◌-◌, ◌%◌, ◌≤◌, Bool, true, false, cond, List, [], ◌∷◌, ◌++◌, length, take}
+use Rattle.std.proofs.Common.{replicate, set, get_or, Some, None, refl, ap, sym, subst, ◌∙◌, append-nil, length-append}
+use Rattle.std.proofs.Common.{length-set, arith}
 use Rattle.asn1_model.specs.Numbers.{binary, missing, octet_bits}
 use Rattle.per_codec_packing.specs.FieldLists.{FieldList, padding, as_field_list, plain}
 use Rattle.per_codec_packing.proofs.Formed.{plain_field_list, length-field_list}
@@ -82,7 +84,8 @@ module _ (bits : List Bool) (paddings : List ℕ) (placed : Bool) (h : ArePaddin
         ∙ ap (λ t. let p : Packed = record { field_list = t; placed = placed } in p) (spread-bits 0 bits w paddings in_order)
         ∙ ap (λ p. plus p (as_field_list w)) is
 
-    pub grown : (len : ℕ) (b : Bool) (new : List Bool) → length (solid v.field_list) ≤ len → new ≡ take len bits ++ replicate (len - length bits) b → new ≡ bits ++ replicate (len - length (solid v.field_list)) b
+    pub grown : (len : ℕ) (b : Bool) (new : List Bool) → length (solid v.field_list) ≤ len → new ≡ take len bits ++ replicate (len - length bits) b →
+        new ≡ bits ++ replicate (len - length (solid v.field_list)) b
     grown len b new l e =
         let within : length bits ≤ len = subst (λ k. length k ≤ len) bits_alone l in
         e ∙ ap (λ k. k ++ replicate (len - length bits) b) (all_taken len bits within) ∙ ap (λ k. bits ++ replicate (len - length k) b) (sym bits_alone)

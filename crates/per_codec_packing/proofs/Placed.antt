@@ -10,7 +10,8 @@ use Rattle.per_codec_packing.proofs.Adding.{added}
 at_place : (x : Per.BitForm) (o : List Bool) → field_list_at x (place (from_start o)) ≡ option_map as_field_list (written x (length o))
 at_place x o = ap (λ n. field_list_at x (Some n)) (length-field_list o) ∙ known x (length o)
 
-pub bits_written : (x : Per.BitForm) (o : List Bool) (new : Packed) → Adds (field_list_at x (place (from_start o))) (from_start o) new → (w : List Bool) × (written x (length o) ≡ Some w) × (new ≡ from_start (o ++ w))
+pub bits_written : (x : Per.BitForm) (o : List Bool) (new : Packed) → Adds (field_list_at x (place (from_start o))) (from_start o) new →
+    (w : List Bool) × (written x (length o) ≡ Some w) × (new ≡ from_start (o ++ w))
 bits_written x o new a =
     let p = added (field_list_at x (place (from_start o))) (from_start o) new a in
     let q = bits (written x (length o)) p.0 (sym (at_place x o) ∙ p.1) in

@@ -66,7 +66,8 @@ module _ (bits w : List Bool) (paddings v : List ℕ) where
       bits_within = omega (arith, to);
       paddings_ordered = omega (arith, first, past, length-append paddings v);
       paddings_within = omega (arith, past);
-      ascend = subst (λ l. Ascend 0 l (length (cut p.bits (bits ++ w)))) (sym (cut_last p.paddings paddings v first past)) (subst (λ l. Ascend 0 v (length l)) (sym (cut_last p.bits bits w from to)) a);
+      ascend = subst (λ l. Ascend 0 l (length (cut p.bits (bits ++ w)))) (sym (cut_last p.paddings paddings v first past))
+          (subst (λ l. Ascend 0 v (length l)) (sym (cut_last p.bits bits w from to)) a);
     }
 
 one_behind : (bits : List Bool) (paddings : List ℕ) (ps : List Part) (p : Part) → AreParts bits paddings ps → IsPart bits paddings p → AreParts bits paddings (ps ++ p ∷ [])
@@ -79,13 +80,16 @@ module _ (bits w more : List Bool) (paddings v others : List ℕ) (ps all : List
   -- the same parts
   module _ (g : all ≡ ps) where
     pub still_parts : AreParts more others all
-    still_parts = subst (λ l. AreParts l others all) (sym e) (subst (λ l. AreParts (bits ++ w) l all) (sym f) (subst (λ l. AreParts (bits ++ w) (paddings ++ v) l) (sym g) (parts_kept bits w paddings v ps h)))
+    still_parts = subst (λ l. AreParts l others all) (sym e) (subst (λ l. AreParts (bits ++ w) l all) (sym f)
+        (subst (λ l. AreParts (bits ++ w) (paddings ++ v) l) (sym g) (parts_kept bits w paddings v ps h)))
 
     pub same_field_lists : field_lists_in more others all ≡ field_lists_in bits paddings ps
-    same_field_lists = ap (λ l. field_lists_in l others all) e ∙ ap (λ l. field_lists_in (bits ++ w) l all) f ∙ ap (λ l. field_lists_in (bits ++ w) (paddings ++ v) l) g ∙ field_lists_kept bits w paddings v ps h
+    same_field_lists = ap (λ l. field_lists_in l others all) e ∙ ap (λ l. field_lists_in (bits ++ w) l all) f ∙
+        ap (λ l. field_lists_in (bits ++ w) (paddings ++ v) l) g ∙ field_lists_kept bits w paddings v ps h
 
   -- one more part
-  module _ (p : Part) (g : all ≡ ps ++ p ∷ []) (from : p.bits.from ≡ length bits) (to : p.bits.to ≡ length more) (first : p.paddings.from ≡ length paddings) (past : p.paddings.to ≡ length others) where
+  module _ (p : Part) (g : all ≡ ps ++ p ∷ []) (from : p.bits.from ≡ length bits) (to : p.bits.to ≡ length more)
+      (first : p.paddings.from ≡ length paddings) (past : p.paddings.to ≡ length others) where
     pub more_parts : Ascend 0 v (length w) → AreParts more others all
     more_parts a =
         subst (λ l. AreParts l others all) (sym e) (subst (λ l. AreParts (bits ++ w) l all) (sym f) (subst (λ l. AreParts (bits ++ w) (paddings ++ v) l) (sym g)
@@ -105,9 +109,11 @@ part_at bits paddings [] i p d h l e = absurd (omega arith)
 part_at bits paddings (q ∷ ps) zero p d h l e = subst (IsPart bits paddings) (sym e) h.0
 part_at bits paddings (q ∷ ps) (suc i) p d h l e = part_at bits paddings ps i p d h.1 (omega arith) e
 
-pub field_list_at : (bits : List Bool) (paddings : List ℕ) (ps : List Part) (i : ℕ) (p d : Part) → i < length ps → p ≡ get_or ps i d → spread 0 (cut p.bits bits) (cut p.paddings paddings) ≡ get_or (field_lists_in bits paddings ps) i []
+pub field_list_at : (bits : List Bool) (paddings : List ℕ) (ps : List Part) (i : ℕ) (p d : Part) → i < length ps → p ≡ get_or ps i d →
+    spread 0 (cut p.bits bits) (cut p.paddings paddings) ≡ get_or (field_lists_in bits paddings ps) i []
 field_list_at bits paddings ps i p d l e = ap (field_list_in bits paddings) e ∙ sym (get_or-map (field_list_in bits paddings) ps i d [] l)
 
 -- the part of the field-list at an index
-pub part_of : (bits : List Bool) (paddings : List ℕ) (ps : List Part) (ts : List FieldList) (i : ℕ) (p : Part) → AreParts bits paddings ps → field_lists_in bits paddings ps ≡ ts → i < length ts → p ≡ get_or ps i p → IsPart bits paddings p
+pub part_of : (bits : List Bool) (paddings : List ℕ) (ps : List Part) (ts : List FieldList) (i : ℕ) (p : Part) → AreParts bits paddings ps →
+    field_lists_in bits paddings ps ≡ ts → i < length ts → p ≡ get_or ps i p → IsPart bits paddings p
 part_of bits paddings ps ts i p h is l e = part_at bits paddings ps i p p h (omega (arith, length-map ps (field_list_in bits paddings), ap length is, l)) e

@@ -36,7 +36,8 @@ on q t = moved q (length t)
 unfoldable pub field_list_at : Per.BitForm → Option ℕ → Option FieldList
 field_list_at (exactly l) q = Some (as_field_list l)
 field_list_at refused q = None
-field_list_at (both x y) q = option_and_then (λ a. option_map (λ b. a ++ b) (field_list_at y (on q a))) (field_list_at x q)
+field_list_at (both x y) q =
+    option_and_then (λ a. option_map (λ b. a ++ b) (field_list_at y (on q a))) (field_list_at x q)
 field_list_at (placed f) (Some p) = field_list_at (f p) (Some p)
 field_list_at (placed f) None = Some (padding ∷ [])
 field_list_at (varied c d f) q = field_list_at (f d) q

@@ -1,7 +1,7 @@
 pub mod Packed
 pub mod Spread
 pub mod Viewed
-pub mod Whole
+pub mod WholeOctets
 pub mod Parts
 pub mod FieldLists
 pub mod Laws

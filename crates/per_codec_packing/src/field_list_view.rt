@@ -6,7 +6,7 @@ ghost use Rattle.asn1_model.specs.Per.{complete};
 ghost use Rattle.asn1_values_bits.specs.BitStr.{bits_of};
 ghost use Rattle.per_codec_packing.specs.Spread.{AscendIn, ascend_prop};
 ghost use Rattle.per_codec_packing.specs.FieldLists.{as_form};
-ghost use Rattle.per_codec_packing.specs.Whole.{AreWhole};
+ghost use Rattle.per_codec_packing.specs.WholeOctets.{AreWhole};
 
 use asn1_values_bits::BitStr;
 

@@ -1,5 +1,7 @@
 -- What the ends of a message and of an open type are in bits.
-use Rattle.std.proofs.Common.{◌≡◌, ◌⊎◌, ℕ, zero, suc, ◌+◌, ◌<◌, ◌==◌, ◌*◌, ◌/◌, ◌%◌, ◌^◌, ◌||◌, Bool, true, false, IsTrue, inl, inr, List, [], ◌∷◌, length, replicate, refl, sym, ◌∙◌, ap, subst, length-append, arith}
+use Rattle.std.proofs.Common.{◌≡◌, ◌⊎◌, ℕ, zero, suc, ◌+◌, ◌<◌, ◌==◌, ◌*◌, ◌/◌, ◌%◌, ◌^◌, ◌||◌, Bool, true, false}
+use Rattle.std.proofs.Common.{IsTrue, inl, inr, List, [], ◌∷◌, length, replicate, refl, sym, ◌∙◌, ap, subst}
+use Rattle.std.proofs.Common.{length-append, arith}
 use Rattle.std.proofs.lemmas.Bool.{eq-eqb, eqb-true, false≢true}
 use Rattle.asn1_model.specs.Numbers.{binary, missing, octet_bits, packed}
 use Rattle.asn1_laws_values.proofs.Octets.{packed_back, packed_octets}
@@ -99,13 +101,15 @@ octets_left free a m rest k b h g =
     let l : length g.0.1 ≡ length g.1 * 8 = ap length g.4 ∙ length-octets g.1 in
     omega (arith, i, j, l)
 
-pub no_octets_left : (free : Per.Freedom → Bool) (a m : Position) → Front free (completion a.0) a m → (length m.1 % 8 ≡ 0 → ⊥) → (rest : Position) (k : List Scope) (b : State) → Closes free a rest k b → ⊥
+pub no_octets_left : (free : Per.Freedom → Bool) (a m : Position) → Front free (completion a.0) a m → (length m.1 % 8 ≡ 0 → ⊥) →
+    (rest : Position) (k : List Scope) (b : State) → Closes free a rest k b → ⊥
 no_octets_left free a m h z rest k b g =
     let l = octets_left free a m rest k b h g in
     z (omega (arith, l))
 
 -- octets are left that the reader does not accept
-pub surplus_octets : (free : Per.Freedom → Bool) (a m : Position) → Front free (completion a.0) a m → (free Per.octets_behind || length m.1 == 0) ≡ false → (rest : Position) (k : List Scope) (b : State) → Closes free a rest k b → ⊥
+pub surplus_octets : (free : Per.Freedom → Bool) (a m : Position) → Front free (completion a.0) a m →
+    (free Per.octets_behind || length m.1 == 0) ≡ false → (rest : Position) (k : List Scope) (b : State) → Closes free a rest k b → ⊥
 surplus_octets free a m h t rest k b g =
     let l = octets_left free a m rest k b h g in
     let may : ((length m.1 == 0) ≡ true) ⊎ IsTrue (free Per.octets_behind) = elim g.5 [

@@ -32,7 +32,9 @@ module _ (w d n code : ℕ) (rest : List Bool) (some : 0 < d) (e : binary w code
       more m w = omega arith
 
   pub code_digits : binary w code ≡ take w (binary (d * w) n ++ rest)
-  code_digits = sym (ap (take w) parts ∙ subst (λ k. take k (binary w code ++ (binary ((d - 1) * w) n ++ rest)) ≡ binary w code) (length-binary w code) (take-append_seam (binary w code) (binary ((d - 1) * w) n ++ rest)))
+  code_digits = sym (ap (take w) parts ∙ subst (λ k. take k (binary w code ++ (binary ((d - 1) * w) n ++ rest)) ≡ binary w code)
+      (length-binary w code) (take-append_seam (binary w code) (binary ((d - 1) * w) n ++ rest)))
 
   pub codes_behind : binary ((d - 1) * w) n ++ rest ≡ drop w (binary (d * w) n ++ rest)
-  codes_behind = sym (ap (drop w) parts ∙ subst (λ k. drop k (binary w code ++ (binary ((d - 1) * w) n ++ rest)) ≡ binary ((d - 1) * w) n ++ rest) (length-binary w code) (drop-append_seam (binary w code) (binary ((d - 1) * w) n ++ rest)))
+  codes_behind = sym (ap (drop w) parts ∙ subst (λ k. drop k (binary w code ++ (binary ((d - 1) * w) n ++ rest)) ≡ binary ((d - 1) * w) n ++ rest)
+      (length-binary w code) (drop-append_seam (binary w code) (binary ((d - 1) * w) n ++ rest)))

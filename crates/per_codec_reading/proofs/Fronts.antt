@@ -1,5 +1,7 @@
 -- Parts of the forms with which bits begin.
-use Rattle.std.proofs.Common.{◌≡◌, ◌⊎◌, inl, inr, ℕ, ◌+◌, ◌^◌, ◌<◌, ◌==◌, ◌↔◌, Bool, true, false, not, ◌||◌, IsTrue, Result, Ok, Err, IfOk, IfErr, List, [], ◌∷◌, ◌++◌, length, replicate, take, refl, ap, sym, ◌∙◌, subst, append_assoc, length-append, arith}
+use Rattle.std.proofs.Common.{◌≡◌, ◌⊎◌, inl, inr, ℕ, ◌+◌, ◌^◌, ◌<◌, ◌==◌, ◌↔◌, Bool, true, false, not, ◌||◌, IsTrue}
+use Rattle.std.proofs.Common.{Result, Ok, Err, IfOk, IfErr, List, [], ◌∷◌, ◌++◌, length, replicate, take, refl, ap, sym}
+use Rattle.std.proofs.Common.{◌∙◌, subst, append_assoc, length-append, arith}
 use Rattle.std.proofs.lemmas.Bool.{eq-eqb, eqb-true, false≢true}
 use Rattle.std.proofs.lemmas.List.{take_all}
 use Rattle.asn1_model.specs.Form.{Reads, exactly, only_if}
@@ -75,7 +77,8 @@ zero_bits w n bs l d h =
     (λ t. sym all ∙ sym d ∙ ap (binary w) (eqb-true n 0 t) ∙ zeros, λ e. eq-eqb n 0 (binary_equal w n 0 h p (d ∙ all ∙ e ∙ sym zeros)))
 
 -- One form is missed where another is, if the bits begin with none of the one where they begin with none of the other.
-pub misses_also : {X Y : Type 0} (free : Per.Freedom → Bool) (f : X → Per.BitForm) (g : Y → Per.BitForm) (a b : Position) (e : DecodeError) → (NoneStands free f a → NoneStands free g b) → Misses free f a e → Misses free g b e
+pub misses_also : {X Y : Type 0} (free : Per.Freedom → Bool) (f : X → Per.BitForm) (g : Y → Per.BitForm) (a b : Position) (e : DecodeError) →
+    (NoneStands free f a → NoneStands free g b) → Misses free f a e → Misses free g b e
 misses_also free f g a b OutOfMemory h m = tt
 misses_also free f g a b AlreadyFailed h m = m
 misses_also free f g a b e h m = h m

@@ -1,47 +1,10 @@
 -- The fragments of units, the largest first (X.691 11.9.3.8), one fragment after another.
-use Rattle.std.proofs.Common.{◌≡◌, ◌⊎◌, inl, inr, ℕ, suc, ◌+◌, ◌-◌, ◌*◌, ◌/◌, ◌%◌, ◌<◌, ◌≤◌, ◌==◌, ltb, min, Bool, true, false, cond, not, ◌||◌, IsTrue, List, [], ◌∷◌, ◌++◌, filter, replicate, refl, ap, sym, ◌∙◌, arith}
+use Rattle.std.proofs.Common.{◌≡◌, ◌⊎◌, inl, inr, ℕ, ◌+◌, ◌-◌, ◌*◌, ◌/◌, ◌<◌, ◌≤◌, ◌==◌, ltb, min, Bool, true, false, ◌||◌, IsTrue, List, [], ◌∷◌, refl, ap, sym, ◌∙◌, arith}
 use Rattle.std.proofs.lemmas.Bool.{cases_lt, lt-ltb, ltb-true, eqb-true, eq-eqb, or_cases, false≢true}
 use Rattle.asn1_model.specs.Per
+use Rattle.per_codec_laws.proofs.Largest.{none_of_them, first_of_them}
 use Rattle.per_codec_reading.specs.declared.length.Length.TheVariants.{Fragment}
 use Rattle.per_codec_reading.specs.Units.{may_follow, length_may_follow}
-
--- a fragment of m times 16384, if m is not zero
-abbrev unless_zero : ℕ → List ℕ
-unless_zero r = filter (λ m. not (m == 0)) (r ∷ [])
-
-abbrev fragments_by : ℕ → ℕ → List ℕ
-fragments_by q r = replicate q 4 ++ unless_zero r
-
-one_fragment : (m : ℕ) (b : Bool) → (suc m == 0) ≡ b → unless_zero (suc m) ≡ suc m ∷ []
-one_fragment m true e = absurd (let z : suc m ≡ 0 = eqb-true (suc m) 0 e in omega arith)
-one_fragment m false e = ap (λ b. cond (not b) (suc m ∷ []) []) e
-
-pub none_of_them : (n : ℕ) → n < 16384 → Per.largest_first n ≡ []
-none_of_them n h =
-    let q : n / 65536 ≡ 0 = omega arith in
-    let r : n / 16384 % 4 ≡ 0 = omega arith in
-    ap (λ i. fragments_by i (n / 16384 % 4)) q ∙ ap (λ i. unless_zero i) r
-
--- the first of them is four times 16384, or the last one
-pub first_of_them : (n m : ℕ) → 16384 ≤ n → m ≡ min (n / 16384) 4 → Per.largest_first n ≡ m ∷ Per.largest_first (n - m * 16384)
-first_of_them n m h e = elim (cases_lt n 65536) [
-  | inl b ↦
-      let i : m ≡ suc (m - 1) = omega arith in
-      let q : n / 65536 ≡ 0 = omega arith in
-      let r : n / 16384 % 4 ≡ suc (m - 1) = omega arith in
-      ap (λ k. fragments_by k (n / 16384 % 4)) q
-      ∙ ap (λ k. unless_zero k) r
-      ∙ one_fragment (m - 1) (suc (m - 1) == 0) refl
-      ∙ ap (λ k. k ∷ []) (sym i)
-      ∙ ap (λ l. m ∷ l) (sym (none_of_them (n - m * 16384) (omega arith)))
-  | inr b ↦
-      let four : m ≡ 4 = omega arith in
-      let q : n / 65536 ≡ suc ((n - m * 16384) / 65536) = omega arith in
-      let r : n / 16384 % 4 ≡ (n - m * 16384) / 16384 % 4 = omega arith in
-      ap (λ k. fragments_by k (n / 16384 % 4)) q
-      ∙ ap (λ k. 4 ∷ fragments_by ((n - m * 16384) / 65536) k) r
-      ∙ ap (λ k. k ∷ Per.largest_first (n - m * 16384)) (sym four)
-]
 
 -- ---- what may follow a fragment
 pub follows_any : (t : Bool) (m n : ℕ) → t ≡ true → may_follow t m n ≡ true

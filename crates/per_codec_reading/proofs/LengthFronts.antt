@@ -1,5 +1,7 @@
 -- The bits with which a length determinant begins.
-use Rattle.std.proofs.Common.{◌≡◌, inl, inr, ◌⊎◌, ℕ, ◌+◌, ◌-◌, ◌*◌, ◌/◌, ◌%◌, ◌^◌, ◌<◌, ◌≤◌, ◌==◌, leb, ltb, ◌&&◌, ◌||◌, Bool, true, false, IsTrue, List, [], ◌∷◌, ◌++◌, length, drop, refl, ap, sym, ◌∙◌, subst, cond, append_assoc, length-append, arith}
+use Rattle.std.proofs.Common.{◌≡◌, inl, inr, ◌⊎◌, ℕ, ◌+◌, ◌-◌, ◌*◌, ◌/◌, ◌%◌, ◌^◌, ◌<◌, ◌≤◌, ◌==◌, leb, ltb, ◌&&◌, ◌||◌}
+use Rattle.std.proofs.Common.{Bool, true, false, IsTrue, List, [], ◌∷◌, ◌++◌, length, drop, refl, ap, sym, ◌∙◌, subst}
+use Rattle.std.proofs.Common.{cond, append_assoc, length-append, arith}
 use Rattle.std.proofs.lemmas.Bool.{lt-ltb, ltb-true, le-leb, leb-true, and_parts, and_from, eq-eqb, false_from_ne_true, false≢true}
 use Rattle.std.proofs.lemmas.List.{append-nil}
 use Rattle.asn1_model.specs.Form.{exactly, only_if}
@@ -70,7 +72,8 @@ module _ (free : Per.Freedom → Bool) where
       not_at_least : (n : ℕ) → n < 128 → leb 128 n ≡ false
       not_at_least n l = false_from_ne_true (leb 128 n) (λ e. let g = leb-true 128 n e in omega arith)
 
-  pub long_read : (x m : ℕ) (a b c : Position) → (free Per.two_octet_length || leb 128 ((x - 128) * 256 + m)) ≡ true → 128 ≤ x → x < 192 → m < 256 → Leads (binary 8 x) a b → Leads (binary 8 m) b c → Front free (length_form false (Short ((x - 128) * 256 + m))) a c
+  pub long_read : (x m : ℕ) (a b c : Position) → (free Per.two_octet_length || leb 128 ((x - 128) * 256 + m)) ≡ true → 128 ≤ x → x < 192 → m < 256 →
+      Leads (binary 8 x) a b → Leads (binary 8 m) b c → Front free (length_form false (Short ((x - 128) * 256 + m))) a c
   unfolding Per.short_length Per.at_octet
   long_read x m a b c t l u v h k =
       let n = (x - 128) * 256 + m in
@@ -79,7 +82,8 @@ module _ (free : Per.Freedom → Bool) where
       let q : n % 256 ≡ m = omega arith in
       let e : binary 8 x ++ binary 8 m ≡ true ∷ false ∷ binary 14 n = ap (λ y. binary 8 y ++ binary 8 m) (sym p) ∙ ap (λ y. binary 8 (128 + n / 256) ++ binary 8 y) (sym q) ∙ long_octets n s in
       let may : (true ≡ leb 128 n) ⊎ IsTrue (free Per.two_octet_length) = elim (or_free _ _ t) [ inl i ↦ inl (sym i) | inr i ↦ inr i ] in
-      varied_in free (short_detail n) true may a c (if_in free (ltb n 16384) _ a c (lt-ltb n 16384 s) (exactly_in free (true ∷ false ∷ binary 14 n) a c (subst (λ w. Leads w a c) e (leads_join (binary 8 x) (binary 8 m) a b c h k))))
+      varied_in free (short_detail n) true may a c (if_in free (ltb n 16384) _ a c (lt-ltb n 16384 s)
+      (exactly_in free (true ∷ false ∷ binary 14 n) a c (subst (λ w. Leads w a c) e (leads_join (binary 8 x) (binary 8 m) a b c h k))))
 
   pub fragment_read : (x : ℕ) (a b : Position) → 193 ≤ x → x ≤ 196 → Leads (binary 8 x) a b → Front free (length_form false (Fragment (x - 192))) a b
   unfolding Per.at_octet
@@ -88,7 +92,8 @@ module _ (free : Per.Freedom → Bool) where
       let i : 1 ≤ m = omega arith in
       let j : m ≤ 4 = omega arith in
       let p : x ≡ 192 + m = omega arith in
-      if_in free (leb 1 m && leb m 4) _ a b (and_from _ _ (le-leb 1 m i) (le-leb m 4 j)) (exactly_in free (true ∷ true ∷ binary 6 m) a b (subst (λ w. Leads w a b) (ap (binary 8) p ∙ head_octet m (omega arith)) h))
+      if_in free (leb 1 m && leb m 4) _ a b (and_from _ _ (le-leb 1 m i) (le-leb m 4 j))
+      (exactly_in free (true ∷ true ∷ binary 6 m) a b (subst (λ w. Leads w a b) (ap (binary 8) p ∙ head_octet m (omega arith)) h))
 
   -- ---- no length
   -- the first octet of the bits
@@ -151,7 +156,8 @@ module _ (free : Per.Freedom → Bool) where
       elim i [ inl q ↦ omega arith | inr q ↦ elim q [ inl r ↦ (let v = r.2 in omega arith) | inr r ↦ (let v = r.0 in omega arith) ] ])
 
   -- two octets that the reader does not accept
-  pub not_two_octets : (x m : ℕ) (a b c : Position) → (free Per.two_octet_length || leb 128 ((x - 128) * 256 + m)) ≡ false → 128 ≤ x → x < 192 → m < 256 → Leads (binary 8 x) a b → Leads (binary 8 m) b c → NoneStands free (length_form false) a
+  pub not_two_octets : (x m : ℕ) (a b c : Position) → (free Per.two_octet_length || leb 128 ((x - 128) * 256 + m)) ≡ false → 128 ≤ x → x < 192 →
+      m < 256 → Leads (binary 8 x) a b → Leads (binary 8 m) b c → NoneStands free (length_form false) a
   unfolding Per.short_length Per.at_octet
   not_two_octets x m a b c t l u v h k (Fragment j) d f =
       let i = if_out free (leb 1 j && leb j 4) _ a d f in
@@ -165,7 +171,8 @@ module _ (free : Per.Freedom → Bool) where
       go true y g =
           let i = if_out free (ltb n 16384) _ a d g in
           let s = ltb-true n 16384 i.0 in
-          let o = leads_same (binary 8 x ++ binary 8 m) (true ∷ false ∷ binary 14 n) a c d refl (leads_join (binary 8 x) (binary 8 m) a b c h k) (exactly_out free (true ∷ false ∷ binary 14 n) a d i.1) in
+          let o = leads_same (binary 8 x ++ binary 8 m) (true ∷ false ∷ binary 14 n) a c d refl (leads_join (binary 8 x) (binary 8 m) a b c h k)
+          (exactly_out free (true ∷ false ∷ binary 14 n) a d i.1) in
           let p : binary 8 x ++ binary 8 m ≡ binary 8 (128 + n / 256) ++ binary 8 (n % 256) = o ∙ sym (long_octets n s) in
           let z = binary_equal 8 x (128 + n / 256) (omega arith) (omega arith) (fronts_equal (binary 8 x) (binary 8 (128 + n / 256)) (binary 8 m) (binary 8 (n % 256)) refl p) in
           let low : binary 8 m ≡ binary 8 (n % 256) = ap (drop 8) p in

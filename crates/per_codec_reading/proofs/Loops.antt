@@ -57,7 +57,9 @@ module _ (free : Per.Freedom → Bool) where
   pub joins_none : (al : Bool) (w l : ℕ) (first : Units) (start : Position) → Joins al w l first start l first start
   joins_none al w l first start = record { whole = λ n bs b h r. (n, bs, refl, refl, h, r); none = λ h. h }
 
-  pub joins_more : (al : Bool) (w l m k : ℕ) (xs : List Bool) (first joined : Units) (start here next : Position) → length_may_follow any m (Fragment k) ≡ true → Joins al w l first start m joined here → Front free (piece_form al w (Fragment k, xs)) here next → Joins al w l first start k (joined.0 + k * 16384, joined.1 ++ xs) next
+  pub joins_more : (al : Bool) (w l m k : ℕ) (xs : List Bool) (first joined : Units) (start here next : Position) →
+      length_may_follow any m (Fragment k) ≡ true → Joins al w l first start m joined here → Front free (piece_form al w (Fragment k, xs)) here next →
+      Joins al w l first start k (joined.0 + k * 16384, joined.1 ++ xs) next
   joins_more al w l m k xs first joined start here next t j f = record {
     whole = λ n bs b h r.
         let q = j.whole (k * 16384 + n) (xs ++ bs) b (fragment_follows any m k (k * 16384 + n) t) (run_more free al w k n xs bs here next b h f r) in
@@ -66,7 +68,8 @@ module _ (free : Per.Freedom → Bool) where
     none = λ h. j.none (λ n bs b g r. none_behind free al w k xs here next f h n bs b r);
   }
 
-  pub joins_last : (al : Bool) (w l m n : ℕ) (xs : List Bool) (first joined : Units) (start here next : Position) → Joins al w l first start m joined here → Front free (piece_form al w (Short n, xs)) here next → Continued free (units_after any l al w) first (joined.0 + n, joined.1 ++ xs) start next
+  pub joins_last : (al : Bool) (w l m n : ℕ) (xs : List Bool) (first joined : Units) (start here next : Position) →
+      Joins al w l first start m joined here → Front free (piece_form al w (Short n, xs)) here next → Continued free (units_after any l al w) first (joined.0 + n, joined.1 ++ xs) start next
   joins_last al w l m n xs first joined start here next j f =
       let q = j.whole n xs next (follows_last any m n (short_small free al w n xs here next f)) (run_last free al w n xs here next f) in
       ((q.0, q.1), q.2, q.3, if_in free (may_follow any l q.0) _ start next q.4 (run_in free al w q.0 q.1 start next q.5))
@@ -76,11 +79,13 @@ module _ (free : Per.Freedom → Bool) where
       let i = if_out free (may_follow any l us.0) (counted_units al w us) a b f in
       n us.0 us.1 b i.0 (run_out free al w us.0 us.1 a b i.1)
 
-  pub joins_stop : (al : Bool) (w l m : ℕ) (first joined : Units) (start here : Position) → Joins al w l first start m joined here → NoneStands free (piece_form al w) here → NoneStands free (units_after any l al w) start
+  pub joins_stop : (al : Bool) (w l m : ℕ) (first joined : Units) (start here : Position) → Joins al w l first start m joined here →
+      NoneStands free (piece_form al w) here → NoneStands free (units_after any l al w) start
   joins_stop al w l m first joined start here j n = none_counted al w l start (j.none (λ k bs b h r. no_piece free al w here n k bs b r))
 
   -- a fragment that may not follow
-  pub joins_refused : (al : Bool) (w l m : ℕ) (d : Length) (xs : List Bool) (first joined : Units) (start here next : Position) → length_may_follow any m d ≡ false → Joins al w l first start m joined here → Front free (piece_form al w (d, xs)) here next → NoneStands free (units_after any l al w) start
+  pub joins_refused : (al : Bool) (w l m : ℕ) (d : Length) (xs : List Bool) (first joined : Units) (start here next : Position) →
+      length_may_follow any m d ≡ false → Joins al w l first start m joined here → Front free (piece_form al w (d, xs)) here next → NoneStands free (units_after any l al w) start
   joins_refused al w l m (Short n) xs first joined start here next t j f = absurd (false≢true (sym t))
   joins_refused al w l m (Fragment k) xs first joined start here next t j f = none_counted al w l start (j.none (none_refused free al w m k xs here next f t))
 
@@ -88,7 +93,8 @@ module _ (free : Per.Freedom → Bool) where
   pub short_run : (al : Bool) (w n : ℕ) (xs : List Bool) (a b : Position) → Front free (piece_form al w (Short n, xs)) a b → Front free (counted_units al w (n, xs)) a b
   short_run al w n xs a b f = run_in free al w n xs a b (run_last free al w n xs a b f)
 
-  pub long_run : (al : Bool) (w m : ℕ) (xs : List Bool) (all : Units) (a mid b : Position) → Front free (piece_form al w (Fragment m, xs)) a mid → Continued free (units_after any m al w) (m * 16384, xs) all mid b → Front free (counted_units al w all) a b
+  pub long_run : (al : Bool) (w m : ℕ) (xs : List Bool) (all : Units) (a mid b : Position) → Front free (piece_form al w (Fragment m, xs)) a mid →
+      Continued free (units_after any m al w) (m * 16384, xs) all mid b → Front free (counted_units al w all) a b
   long_run al w m xs all a mid b f c =
       let us = c.0 in
       let i = if_out free (may_follow any m us.0) (counted_units al w us) mid b c.3 in
@@ -101,5 +107,7 @@ module _ (free : Per.Freedom → Bool) where
   pub no_first : (al : Bool) (w : ℕ) (a : Position) → NoneStands free (piece_form al w) a → NoneStands free (counted_units al w) a
   no_first al w a n us b f = no_piece free al w a n us.0 us.1 b (run_out free al w us.0 us.1 a b f)
 
-  pub no_further : (al : Bool) (w m : ℕ) (xs : List Bool) (a mid : Position) → Front free (piece_form al w (Fragment m, xs)) a mid → NoneStands free (units_after any m al w) mid → NoneStands free (counted_units al w) a
-  no_further al w m xs a mid f n us b g = none_behind free al w m xs a mid f (λ k bs c h r. n (k, bs) c (if_in free (may_follow any m k) _ mid c h (run_in free al w k bs mid c r))) us.0 us.1 b (run_out free al w us.0 us.1 a b g)
+  pub no_further : (al : Bool) (w m : ℕ) (xs : List Bool) (a mid : Position) → Front free (piece_form al w (Fragment m, xs)) a mid →
+      NoneStands free (units_after any m al w) mid → NoneStands free (counted_units al w) a
+  no_further al w m xs a mid f n us b g = none_behind free al w m xs a mid f
+      (λ k bs c h r. n (k, bs) c (if_in free (may_follow any m k) _ mid c h (run_in free al w k bs mid c r))) us.0 us.1 b (run_out free al w us.0 us.1 a b g)

@@ -1,5 +1,6 @@
 -- Bits that begin with octets after a length determinant, as units of eight bits.
-use Rattle.std.proofs.Common.{◌≡◌, ℕ, zero, suc, ◌*◌, ◌/◌, ◌%◌, ◌==◌, Bool, true, false, List, [], ◌∷◌, ◌++◌, length, replicate, refl, ap, sym, ◌∙◌, subst, arith, length-append, Fits, w8, get_or, append-nil}
+use Rattle.std.proofs.Common.{◌≡◌, ℕ, zero, suc, ◌*◌, ◌/◌, ◌%◌, ◌==◌, Bool, true, false, List, [], ◌∷◌, ◌++◌, length}
+use Rattle.std.proofs.Common.{replicate, refl, ap, sym, ◌∙◌, subst, arith, length-append, Fits, w8, get_or, append-nil}
 use Rattle.std.proofs.lemmas.Bool.{eqb-true, eq-eqb, and_from, lt-ltb}
 use Rattle.asn1_model.specs.Numbers.{binary, missing, octet_bits, packed}
 use Rattle.asn1_model.specs.Strings.{is_octet}
@@ -40,7 +41,8 @@ module _ (free : Per.Freedom → Bool) where
   pub counted_size : (al : Bool) (w n : ℕ) (bs : List Bool) (a b : Position) → Front free (counted_units al w (n, bs)) a b → length bs ≡ n * w
   counted_size al w n bs a b f = eqb-true _ _ (if_out free (length bs == n * w) _ a b f).0
 
-  pub octets_front : (al : Bool) (us : Units) (os : List ℕ) (a b : Position) → Front free (counted_units al 8 us) a b → list_all is_octet os ≡ true → octet_bits os ≡ us.1 → Front free (Per.counted_octets al os) a b
+  pub octets_front : (al : Bool) (us : Units) (os : List ℕ) (a b : Position) → Front free (counted_units al 8 us) a b → list_all is_octet os ≡ true →
+      octet_bits os ≡ us.1 → Front free (Per.counted_octets al os) a b
   unfolding Per.counted_octets
   octets_front al us os a b f s e =
       let i = if_out free (length us.1 == us.0 * 8) _ a b f in
@@ -55,4 +57,5 @@ module _ (free : Per.Freedom → Bool) where
   unfolding Per.counted_octets
   no_octets al a n os b f =
       let i = if_out free (list_all is_octet os) _ a b f in
-      n (length os, octet_bits os) b (if_in free (length (octet_bits os) == length os * 8) _ a b (eq-eqb _ _ (length-octet_bits os)) (subst (λ x. Front free (Per.counted al x) a b) (sym (octet_pieces os)) i.1))
+      n (length os, octet_bits os) b (if_in free (length (octet_bits os) == length os * 8) _ a b (eq-eqb _ _ (length-octet_bits os))
+      (subst (λ x. Front free (Per.counted al x) a b) (sym (octet_pieces os)) i.1))

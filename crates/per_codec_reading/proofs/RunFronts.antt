@@ -1,16 +1,16 @@
 -- Units of one width after their length determinant: a length and as many units, and what comes after a fragment.
 use Rattle.std.proofs.Common.{◌≡◌, ◌⊎◌, inl, inr, ℕ, ◌+◌, ◌*◌, ◌<◌, ◌≤◌, ◌==◌, leb, ltb, cond, ◌&&◌, Bool, true, false, List, [], ◌∷◌, ◌++◌, length, ap, sym, ◌∙◌, subst, arith, length-append}
 use Rattle.std.proofs.lemmas.List.{append_cancel_left}
-use Rattle.std.proofs.lemmas.Bool.{leb-true, ltb-true, eqb-true, eq-eqb, and_parts}
+use Rattle.std.proofs.lemmas.Bool.{leb-true, eqb-true, eq-eqb, and_parts}
 use Rattle.asn1_model.specs.Numbers.{binary}
 use Rattle.asn1_model.specs.Form.{exactly, only_if}
 use Rattle.asn1_model.specs.Per
 use Rattle.asn1_laws_fronts.proofs.Fronts.{agree_exactly, agree_first, agree_if_right, agree_varied_right}
 use Rattle.asn1_laws_fronts.proofs.PerNumbers.{Alike, at_octet_alike, binary_alike, bits_apart, short_length_alike}
 use Rattle.per_codec_laws.specs.Takes.{Position, Front}
-use Rattle.per_codec_laws.proofs.Fronts.{split, join, if_in, if_out, varied_in, varied_out}
+use Rattle.per_codec_laws.proofs.Fronts.{split, join, if_in, if_out, varied_in, varied_out, short_bound}
 use Rattle.per_codec_laws.proofs.Next.{place_same}
-use Rattle.per_codec_reading.specs.Fronts.{Leads, to_octet}
+use Rattle.per_codec_reading.specs.Fronts.{Leads}
 use Rattle.per_codec_reading.specs.Lengths.{length_form}
 use Rattle.per_codec_reading.specs.declared.length.Length.{Length}
 use Rattle.per_codec_reading.specs.declared.length.Length.TheVariants.{Short, Fragment}
@@ -67,16 +67,19 @@ module _ (free : Per.Freedom → Bool) where
       (ap Fragment q.0, q.1)
 
   -- ---- pieces
-  pub piece_in : (al : Bool) (w : ℕ) (l : Length) (bs : List Bool) (a mid b : Position) → Front free (length_form al l) a mid → Leads bs mid b → length bs ≡ count_of l * w → Front free (piece_form al w (l, bs)) a b
+  pub piece_in : (al : Bool) (w : ℕ) (l : Length) (bs : List Bool) (a mid b : Position) → Front free (length_form al l) a mid → Leads bs mid b →
+      length bs ≡ count_of l * w → Front free (piece_form al w (l, bs)) a b
   piece_in al w l bs a mid b f h e = if_in free (length bs == count_of l * w) _ a b (eq-eqb _ _ e) (join free (length_form al l) (exactly bs) a mid b f (exactly_in free bs mid b h))
 
-  pub piece_out : (al : Bool) (w : ℕ) (l : Length) (bs : List Bool) (a b : Position) → Front free (piece_form al w (l, bs)) a b → (length bs ≡ count_of l * w) × (mid : Position) × Front free (length_form al l) a mid × Leads bs mid b
+  pub piece_out : (al : Bool) (w : ℕ) (l : Length) (bs : List Bool) (a b : Position) → Front free (piece_form al w (l, bs)) a b →
+      (length bs ≡ count_of l * w) × (mid : Position) × Front free (length_form al l) a mid × Leads bs mid b
   piece_out al w l bs a b f =
       let i = if_out free (length bs == count_of l * w) _ a b f in
       let s = split free (length_form al l) (exactly bs) a b i.1 in
       (eqb-true _ _ i.0, s.0, s.1, exactly_out free bs s.0 b s.2)
 
-  pub piece_one : (al : Bool) (w : ℕ) (l k : Length) (xs ys : List Bool) (a b c : Position) → Front free (piece_form al w (l, xs)) a b → Front free (piece_form al w (k, ys)) a c → (l ≡ k) × (xs ≡ ys) × (b ≡ c)
+  pub piece_one : (al : Bool) (w : ℕ) (l k : Length) (xs ys : List Bool) (a b c : Position) → Front free (piece_form al w (l, xs)) a b →
+      Front free (piece_form al w (k, ys)) a c → (l ≡ k) × (xs ≡ ys) × (b ≡ c)
   piece_one al w l k xs ys a b c f g =
       let p = piece_out al w l xs a b f in
       let q = piece_out al w k ys a c g in
@@ -88,7 +91,8 @@ module _ (free : Per.Freedom → Bool) where
   pub no_length : (al : Bool) (w : ℕ) (a : Position) → ((l : Length) (b : Position) → Front free (length_form al l) a b → ⊥) → (x : Piece) (b : Position) → Front free (piece_form al w x) a b → ⊥
   no_length al w a n x b f = let p = piece_out al w x.0 x.1 a b f in n x.0 p.1 p.2
 
-  pub too_few : (al : Bool) (w : ℕ) (l : Length) (a mid : Position) → Front free (length_form al l) a mid → length mid.1 < count_of l * w → (x : Piece) (b : Position) → Front free (piece_form al w x) a b → ⊥
+  pub too_few : (al : Bool) (w : ℕ) (l : Length) (a mid : Position) → Front free (length_form al l) a mid → length mid.1 < count_of l * w →
+      (x : Piece) (b : Position) → Front free (piece_form al w x) a b → ⊥
   too_few al w l a mid h few x b f =
       let p = piece_out al w x.0 x.1 a b f in
       let o = length_one al l x.0 a mid p.1 h p.2 in
@@ -100,18 +104,6 @@ module _ (free : Per.Freedom → Bool) where
 
   -- ---- all units
   -- how large lengths are
-  last_bound : (long : Bool) (n : ℕ) (a b : Position) → Front free (last long n) a b → n < 16384
-  last_bound true n a b f = ltb-true n 16384 (if_out free (ltb n 16384) _ a b f).0
-  last_bound false n a b f = let l = ltb-true n 128 (if_out free (ltb n 128) _ a b f).0 in omega arith
-
-  short_bound : (al : Bool) (n : ℕ) (a b : Position) → Front free (length_form al (Short n)) a b → n < 16384
-  unfolding Per.short_length Per.at_octet
-  short_bound false n a b f = let v = varied_out free (λ long. last long n) a b f in last_bound v.0 n a b v.2
-  short_bound true n a b f =
-      let s = split free to_octet _ a b f in
-      let v = varied_out free (λ long. last long n) s.0 b s.2 in
-      last_bound v.0 n s.0 b v.2
-
   multiple_bounds : (al : Bool) (m : ℕ) (a b : Position) → Front free (length_form al (Fragment m)) a b → (1 ≤ m) × (m ≤ 4)
   multiple_bounds al m a b f =
       let p = and_parts (leb 1 m) (leb m 4) (if_out free (leb 1 m && leb m 4) _ a b f).0 in
@@ -119,7 +111,7 @@ module _ (free : Per.Freedom → Bool) where
 
   -- the units after a last length
   pub short_small : (al : Bool) (w n : ℕ) (bs : List Bool) (a b : Position) → Front free (piece_form al w (Short n, bs)) a b → n < 16384
-  short_small al w n bs a b f = let p = piece_out al w (Short n) bs a b f in short_bound al n a p.1 p.2
+  short_small al w n bs a b f = let p = piece_out al w (Short n) bs a b f in short_bound free al n a p.1 p.2
 
   -- the bits begin with n units after their length determinants, in fragments that the reader accepts
   pub record Run (al : Bool) (w n : ℕ) (bs : List Bool) (a b : Position) : Type 0 where
@@ -132,7 +124,8 @@ module _ (free : Per.Freedom → Bool) where
       let p = piece_out al w (Short n) bs a b f in
       record { sizes = []; divided = last_in free al w n bs a p.1 b p.0 p.2 p.3; kept = kept_last _ n (short_small al w n bs a b f) }
 
-  pub run_more : (al : Bool) (w m n : ℕ) (xs ys : List Bool) (a mid b : Position) → may_follow (free Per.other_fragments) m n ≡ true → Front free (piece_form al w (Fragment m, xs)) a mid → Run al w n ys mid b → Run al w (m * 16384 + n) (xs ++ ys) a b
+  pub run_more : (al : Bool) (w m n : ℕ) (xs ys : List Bool) (a mid b : Position) → may_follow (free Per.other_fragments) m n ≡ true →
+      Front free (piece_form al w (Fragment m, xs)) a mid → Run al w n ys mid b → Run al w (m * 16384 + n) (xs ++ ys) a b
   run_more al w m n xs ys a mid b h f r =
       let p = piece_out al w (Fragment m) xs a mid f in
       let i = multiple_bounds al m a p.1 p.2 in
@@ -196,7 +189,8 @@ module _ (free : Per.Freedom → Bool) where
   ]
 
   -- a fragment that may not follow
-  pub none_refused : (al : Bool) (w l m : ℕ) (xs : List Bool) (a mid : Position) → Front free (piece_form al w (Fragment m, xs)) a mid → length_may_follow (free Per.other_fragments) l (Fragment m) ≡ false → NoneAfter al w l a
+  pub none_refused : (al : Bool) (w l m : ℕ) (xs : List Bool) (a mid : Position) → Front free (piece_form al w (Fragment m, xs)) a mid →
+      length_may_follow (free Per.other_fragments) l (Fragment m) ≡ false → NoneAfter al w l a
   none_refused al w l m xs a mid p h n bs b t r = elim (run_cases al w n bs a b r) [
     | inl q ↦ let o = piece_one al w (Fragment m) (Short n) xs bs a mid b p q in let e : Fragment m ≡ Short n = o.0 in cc
     | inr f ↦ let c = f.count in let s = f.some in fragment_refused _ l m n h (omega arith) t
@@ -204,7 +198,8 @@ module _ (free : Per.Freedom → Bool) where
 
   pub run_in : (al : Bool) (w n : ℕ) (bs : List Bool) (a b : Position) → Run al w n bs a b → Front free (counted_units al w (n, bs)) a b
   unfolding Per.counted
-  run_in al w n bs a b r = if_in free (length bs == n * w) _ a b (eq-eqb _ _ r.divided.size) (varied_in free (λ ms. Per.fragments al ms (units_of w n bs)) r.sizes (kept_at _ r.sizes n (length (units_of w n bs)) (sym (length-units w n bs)) r.kept) a b r.divided.front)
+  run_in al w n bs a b r = if_in free (length bs == n * w) _ a b (eq-eqb _ _ r.divided.size)
+      (varied_in free (λ ms. Per.fragments al ms (units_of w n bs)) r.sizes (kept_at _ r.sizes n (length (units_of w n bs)) (sym (length-units w n bs)) r.kept) a b r.divided.front)
 
   pub run_out : (al : Bool) (w n : ℕ) (bs : List Bool) (a b : Position) → Front free (counted_units al w (n, bs)) a b → Run al w n bs a b
   unfolding Per.counted

@@ -21,7 +21,7 @@ use Rattle.per_codec_laws.proofs.Fronts.{if_in, if_out, of_refused}
 use Rattle.per_codec_reading.specs.Fronts.{NoneStands, IsFresh, Misses}
 use Rattle.per_codec_reading.proofs.Fronts.{none_misses}
 use Rattle.per_codec_reading.specs.Units.{Units, units_of}
-use Rattle.per_codec_reading.specs.Sizes.{contents_have_padding, sized_units}
+use Rattle.per_codec_reading.specs.Headings.{contents_have_padding, sized_units}
 use Rattle.per_codec_reading.specs.declared.sized.Contents.TheVariants.{Strings}
 use Rattle.per_codec_reading.proofs.OctetFronts.{length-octet_bits, octet_pieces}
 use Rattle.per_codec_reading.proofs.RunFronts.{one}
@@ -35,7 +35,8 @@ module _ (free : Per.Freedom → Bool) (al : Bool) where
   sized_size z h w has_padding us a b f = eqb-true _ _ (if_out free (length us.1 == us.0 * w) _ a b f).0
 
   -- ---- OCTET STRING
-  pub octet_string_stands : (z : Size) (h : Counts) (us : Units) (os : List ℕ) (a b : Position) → Front free (sized_units al z h 8 (contents_have_padding Strings 8) us) a b → list_all is_octet os ≡ true → octet_bits os ≡ us.1 → Front free (Per.form al (octet_string z h) (octet_list os)) a b
+  pub octet_string_stands : (z : Size) (h : Counts) (us : Units) (os : List ℕ) (a b : Position) →
+      Front free (sized_units al z h 8 (contents_have_padding Strings 8) us) a b → list_all is_octet os ≡ true → octet_bits os ≡ us.1 → Front free (Per.form al (octet_string z h) (octet_list os)) a b
   unfolding Per.form
   octet_string_stands z h us os a b f s e =
       let i = if_out free (length us.1 == us.0 * 8) _ a b f in
@@ -56,7 +57,8 @@ module _ (free : Per.Freedom → Bool) (al : Bool) where
   no_octet_string z h a n v b f = of_refused free a b f
 
   -- ---- BIT STRING
-  pub bit_string_stands : (z : Size) (h : Counts) (us : Units) (a b : Position) → Front free (sized_units al z h 1 (contents_have_padding Strings 1) us) a b → Front free (Per.form al (bit_string z h) (bit_list us.1)) a b
+  pub bit_string_stands : (z : Size) (h : Counts) (us : Units) (a b : Position) →
+      Front free (sized_units al z h 1 (contents_have_padding Strings 1) us) a b → Front free (Per.form al (bit_string z h) (bit_list us.1)) a b
   unfolding Per.form
   bit_string_stands z h us a b f =
       let i = if_out free (length us.1 == us.0 * 1) _ a b f in
@@ -78,11 +80,13 @@ module _ (free : Per.Freedom → Bool) (al : Bool) where
   octets_one : (os ps : List ℕ) (a b c : Position) → Front free (Per.counted_octets al os) a b → Front free (Per.counted_octets al ps) a c → os ≡ ps
   octets_one os ps a b c f g = (one free a b c (counted_octets_alike free al os ps) f g).0
 
-  pub text_stands : (z : Size) (l : Alphabet) (os : List ℕ) (a b : Position) → may_hold utf8 os ≡ true → Front free (Per.counted_octets al os) a b → Front free (Per.form al (character_string utf8 z l any_count) (text os)) a b
+  pub text_stands : (z : Size) (l : Alphabet) (os : List ℕ) (a b : Position) → may_hold utf8 os ≡ true → Front free (Per.counted_octets al os) a b →
+      Front free (Per.form al (character_string utf8 z l any_count) (text os)) a b
   unfolding Per.form Per.string_form
   text_stands z l os a b m f = if_in free (may_hold utf8 os) _ a b m (if_in free (is_count_within any_count (length os)) _ a b (and_from _ _ (le-leb 0 (length os) (omega arith)) refl) f)
 
-  text_out : (z : Size) (l : Alphabet) (v : Value) (a b : Position) → Front free (Per.form al (character_string utf8 z l any_count) v) a b → (os : List ℕ) × (may_hold utf8 os ≡ true) × Front free (Per.counted_octets al os) a b
+  text_out : (z : Size) (l : Alphabet) (v : Value) (a b : Position) → Front free (Per.form al (character_string utf8 z l any_count) v) a b →
+      (os : List ℕ) × (may_hold utf8 os ≡ true) × Front free (Per.counted_octets al os) a b
   unfolding Per.form Per.string_form
   text_out z l (text os) a b f = let i = if_out free (may_hold utf8 os) _ a b f in (os, i.0, (if_out free (is_count_within any_count (length os)) (Per.counted_octets al os) a b i.1).1)
   text_out z l v a b f = absurd (of_refused free a b f)
@@ -90,15 +94,18 @@ module _ (free : Per.Freedom → Bool) (al : Bool) where
   pub no_text_octets : (z : Size) (l : Alphabet) (a : Position) → NoneStands free (Per.counted_octets al) a → NoneStands free (Per.form al (character_string utf8 z l any_count)) a
   no_text_octets z l a n v b f = let t = text_out z l v a b f in n t.0 b t.2
 
-  pub no_text : (z : Size) (l : Alphabet) (os : List ℕ) (a c : Position) → may_hold utf8 os ≡ false → Front free (Per.counted_octets al os) a c → NoneStands free (Per.form al (character_string utf8 z l any_count)) a
+  pub no_text : (z : Size) (l : Alphabet) (os : List ℕ) (a c : Position) → may_hold utf8 os ≡ false → Front free (Per.counted_octets al os) a c →
+      NoneStands free (Per.form al (character_string utf8 z l any_count)) a
   no_text z l os a c m g v b f = let t = text_out z l v a b f in false≢true (sym m ∙ ap (may_hold utf8) (octets_one os t.0 a c b g t.2) ∙ t.1)
 
   -- ---- OBJECT IDENTIFIER
-  pub identifier_stands : (ns os : List ℕ) (a b : Position) → is_identifier ns ≡ true → identifier_octets ns ≡ os → Front free (Per.counted_octets al os) a b → Front free (Per.form al object_identifier (arcs ns)) a b
+  pub identifier_stands : (ns os : List ℕ) (a b : Position) → is_identifier ns ≡ true → identifier_octets ns ≡ os →
+      Front free (Per.counted_octets al os) a b → Front free (Per.form al object_identifier (arcs ns)) a b
   unfolding Per.form
   identifier_stands ns os a b i e f = if_in free (is_identifier ns) (Per.counted_octets al (identifier_octets ns)) a b i (subst (λ x. Front free (Per.counted_octets al x) a b) (sym e) f)
 
-  identifier_out : (v : Value) (a b : Position) → Front free (Per.form al object_identifier v) a b → (ns : List ℕ) × (is_identifier ns ≡ true) × Front free (Per.counted_octets al (identifier_octets ns)) a b
+  identifier_out : (v : Value) (a b : Position) → Front free (Per.form al object_identifier v) a b → (ns : List ℕ) × (is_identifier ns ≡ true) ×
+      Front free (Per.counted_octets al (identifier_octets ns)) a b
   unfolding Per.form
   identifier_out (arcs ns) a b f = let i = if_out free (is_identifier ns) (Per.counted_octets al (identifier_octets ns)) a b f in (ns, i.0, i.1)
   identifier_out v a b f = absurd (of_refused free a b f)
@@ -114,6 +121,7 @@ module _ (free : Per.Freedom → Bool) (al : Bool) where
       let x : Err e ≡ Ok i.0 = sym n ∙ k in
       cc
 
-  pub no_identifier : (os : List ℕ) (a c : Position) (e : IdentifierError) (x : DecodeError) → (e ≡ Memory) ⊎ (arcs_of os ≡ Err e) → (e ≡ Memory → x ≡ OutOfMemory) → IsFresh x → Front free (Per.counted_octets al os) a c → Misses free (Per.form al object_identifier) a x
+  pub no_identifier : (os : List ℕ) (a c : Position) (e : IdentifierError) (x : DecodeError) → (e ≡ Memory) ⊎ (arcs_of os ≡ Err e) →
+      (e ≡ Memory → x ≡ OutOfMemory) → IsFresh x → Front free (Per.counted_octets al os) a c → Misses free (Per.form al object_identifier) a x
   no_identifier os a c e x (inl m) h r f = subst (Misses free (Per.form al object_identifier) a) (sym (h m)) tt
   no_identifier os a c e x (inr n) h r f = none_misses free (Per.form al object_identifier) a x r (no_arcs os a c e n f)

@@ -10,7 +10,7 @@ use Rattle.per_codec_laws.proofs.Fronts.{split, join, if_in, if_out}
 use Rattle.per_codec_reading.specs.Fronts.{Leads, NoneStands}
 use Rattle.per_codec_reading.proofs.Fronts.{exactly_in, exactly_out, after_padding, behind_padding}
 use Rattle.per_codec_reading.specs.Units.{Units}
-use Rattle.per_codec_reading.specs.Sizes.{told_count, told_units}
+use Rattle.per_codec_reading.specs.Headings.{told_count, units_by_count}
 use Rattle.per_codec_reading.proofs.RunFronts.{one}
 
 pub padded_true : (al p : Bool) → p ≡ true → (al && p) ≡ al
@@ -45,7 +45,8 @@ module _ (free : Per.Freedom → Bool) where
 
   module _ (al : Bool) (w : ℕ) (has_padding : ℕ → Counts → Bool) (c : Counts) (high : ℕ) where
     -- what follows the length determinant
-    behind : (n : ℕ) (us : Units) (a m b : Position) → Front free (told_count al c.low high n) a m → Front free (told_units al w has_padding c high us) a b → (length us.1 ≡ n * w) × Front free (Per.at_octet (al && has_padding n c) (exactly us.1)) m b
+    behind : (n : ℕ) (us : Units) (a m b : Position) → Front free (told_count al c.low high n) a m →
+        Front free (units_by_count al w has_padding c high us) a b → (length us.1 ≡ n * w) × Front free (Per.at_octet (al && has_padding n c) (exactly us.1)) m b
     behind n us a m b h f =
         let i = if_out free (length us.1 == us.0 * w) _ a b f in
         let s = split free (told_count al c.low high us.0) (Per.at_octet (al && has_padding us.0 c) (exactly us.1)) a b i.1 in
@@ -53,10 +54,12 @@ module _ (free : Per.Freedom → Bool) where
         let g = subst (λ p. Front free (Per.at_octet (al && has_padding us.0 c) (exactly us.1)) p b) (sym o.1) s.2 in
         (eqb-true _ _ i.0 ∙ ap (λ k. k * w) (sym o.0), subst (λ k. Front free (Per.at_octet (al && has_padding k c) (exactly us.1)) m b) (sym o.0) g)
 
-    pub no_octet : (n : ℕ) (a m : Position) → Front free (told_count al c.low high n) a m → NoneStands free (Per.at_octet (al && has_padding n c)) m → NoneStands free (told_units al w has_padding c high) a
+    pub no_octet : (n : ℕ) (a m : Position) → Front free (told_count al c.low high n) a m → NoneStands free (Per.at_octet (al && has_padding n c)) m →
+        NoneStands free (units_by_count al w has_padding c high) a
     no_octet n a m h z us b f = let g = behind n us a m b h f in z (exactly us.1) b g.1
 
-    pub few_bits : (n : ℕ) (a m o : Position) → Front free (told_count al c.low high n) a m → Front free (Per.at_octet (al && has_padding n c) (exactly [])) m o → length o.1 < n * w → NoneStands free (told_units al w has_padding c high) a
+    pub few_bits : (n : ℕ) (a m o : Position) → Front free (told_count al c.low high n) a m →
+        Front free (Per.at_octet (al && has_padding n c) (exactly [])) m o → length o.1 < n * w → NoneStands free (units_by_count al w has_padding c high) a
     few_bits n a m o h k l us b f =
         let g = behind n us a m b h f in
         let e = exactly_out free us.1 o b (behind_padding free (al && has_padding n c) (exactly us.1) m o b k g.1) in
@@ -65,5 +68,7 @@ module _ (free : Per.Freedom → Bool) where
         let j = length-append us.1 b.1 in
         absurd (omega arith)
 
-    pub told_stands : (n : ℕ) (bs : List Bool) (a m o b : Position) → Front free (told_count al c.low high n) a m → Front free (Per.at_octet (al && has_padding n c) (exactly [])) m o → Leads bs o b → length bs ≡ n * w → Front free (told_units al w has_padding c high (n, bs)) a b
-    told_stands n bs a m o b h k l e = if_in free (length bs == n * w) _ a b (eq-eqb _ _ e) (join free _ _ a m b h (after_padding free (al && has_padding n c) (exactly bs) m o b k (exactly_in free bs o b l)))
+    pub told_stands : (n : ℕ) (bs : List Bool) (a m o b : Position) → Front free (told_count al c.low high n) a m →
+        Front free (Per.at_octet (al && has_padding n c) (exactly [])) m o → Leads bs o b → length bs ≡ n * w → Front free (units_by_count al w has_padding c high (n, bs)) a b
+    told_stands n bs a m o b h k l e = if_in free (length bs == n * w) _ a b (eq-eqb _ _ e)
+        (join free _ _ a m b h (after_padding free (al && has_padding n c) (exactly bs) m o b k (exactly_in free bs o b l)))

@@ -94,7 +94,8 @@ module _ (free : Per.Freedom → Bool) where
   abbrev more : Bool → ℕ → List ℕ → List Per.BitForm → Per.BitForm
   more al m ms us = both (Per.at_octet al (exactly (true ∷ true ∷ binary 6 m))) (both (joined (take (m * 16384) us)) (Per.fragments al ms (drop (m * 16384) us)))
 
-  pub more_in : (al : Bool) (w m n : ℕ) (ms : List ℕ) (xs ys : List Bool) (a mid next b : Position) → Front free (length_form al (Fragment m)) a mid → length xs ≡ m * 16384 * w → Leads xs mid next → Divided al w ms n ys next b → Divided al w (m ∷ ms) (m * 16384 + n) (xs ++ ys) a b
+  pub more_in : (al : Bool) (w m n : ℕ) (ms : List ℕ) (xs ys : List Bool) (a mid next b : Position) → Front free (length_form al (Fragment m)) a mid →
+      length xs ≡ m * 16384 * w → Leads xs mid next → Divided al w ms n ys next b → Divided al w (m ∷ ms) (m * 16384 + n) (xs ++ ys) a b
   unfolding Per.fragments
   more_in al w m n ms xs ys a mid next b f l h d =
       let i = if_out free (leb 1 m && leb m 4) _ a mid f in

@@ -1,4 +1,5 @@
--- What the unread bits begin with, and why a reader refuses them.
+-- The rules of a reader, and its freedoms; with which forms the unread bits begin, and why a reader refuses them
+-- (X.691 11.1 for padding).
 use Rattle.std.specs.Prelude.{◌≡◌, ◌+◌, ◌++◌, ◌⊎◌, Bool, true, false, IsTrue, List, length, replicate}
 use Rattle.asn1_model.specs.Form.{placed}
 use Rattle.asn1_model.specs.Per.{Freedom, BitForm, padding, missing}
@@ -23,7 +24,7 @@ variant_of AperStrict = Aligned
 abbrev pub is_aligned : PackedRules → Bool
 is_aligned r = Variants.is_aligned (variant_of r)
 
--- Whether a reader accepts only the forms that a writer writes.
+-- Whether a reader has only the freedoms of strict rules (`strict_per`).
 abbrev pub is_strict : PackedRules → Bool
 is_strict Uper = false
 is_strict Aper = false

@@ -1,8 +1,9 @@
--- Length determinants, and numbers within a bound.
+-- General length determinants (X.691 11.9.3.5 to 11.9.3.8), and numbers within a bound (11.5).
 use Rattle.std.specs.Prelude.{ℕ, ◌≤◌, ◌<◌, ◌^◌, leb, ltb, ◌&&◌, Bool, true, [], ◌∷◌}
 use Rattle.asn1_model.specs.Numbers.{binary}
-use Rattle.asn1_model.specs.Form.{exactly, only_if}
+use Rattle.asn1_model.specs.Form.{exactly, only_if, both}
 use Rattle.asn1_model.specs.Per.{BitForm, at_octet, short_length}
+use Rattle.per_codec_reading.specs.Fronts.{to_octet}
 use Rattle.per_codec_reading.specs.declared.length.Length.{Length}
 use Rattle.per_codec_reading.specs.declared.length.Length.TheVariants.{Short, Fragment}
 
@@ -24,6 +25,10 @@ number_within bits most n = only_if (leb n most && ltb n (2 ^ bits)) (exactly (b
 -- The same, octet-aligned in the aligned variant.
 abbrev pub aligned_within : Bool → ℕ → ℕ → ℕ → BitForm
 aligned_within al bits most n = at_octet al (number_within bits most n)
+
+-- The same as number_within, with padding after it.
+abbrev pub padded_within : ℕ → ℕ → ℕ → BitForm
+padded_within bits most n = both (number_within bits most n) to_octet
 
 -- A single bit.
 abbrev pub one_bit : Bool → BitForm

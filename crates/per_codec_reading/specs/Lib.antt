@@ -2,6 +2,6 @@ pub mod Fronts
 pub mod Lengths
 pub mod Units
 pub mod Runs
-pub mod Sizes
+pub mod Headings
 pub mod Closed
 pub mod Unread

@@ -1,4 +1,4 @@
--- Units that were read, borrowed or joined.
+-- Units that were read (X.691 11.9): their number and bits, borrowed or joined, and where bits are stored.
 use Rattle.std.specs.Prelude.{◌≡◌, ℕ, ◌+◌, ◌*◌, ◌%◌, ◌<◌, ltb, cond, Bool, List, ◌++◌, Option, Some, None}
 use Rattle.asn1_model.specs.Per
 use Rattle.asn1_values_bits.specs.BitStr.{bits_of, offset_of}
@@ -32,7 +32,7 @@ abbrev pub storage_of : RunBits → Storage
 storage_of (Lent bits) = Some (offset_of bits)
 storage_of (Joined bits) = None
 
--- Bits stored there end at this position of them, and so at an octet of the input.
+-- Bits stored there, up to this position of them, end at an octet of the input.
 abbrev pub EndsAtOctet : Storage → ℕ → Type 0
 EndsAtOctet None n = ⊥
 EndsAtOctet (Some o) n = (o + n) % 8 ≡ 0
@@ -53,7 +53,7 @@ InOneRun (Some high) n = Unit {0}
 abbrev pub EndsWith : List Bool → Position → Position → Type 0
 EndsWith bs old new = (w : List Bool) × Leads (w ++ bs) old new
 
--- So are borrowed ones.
+-- If the bits are borrowed, they are the last of those that were taken.
 abbrev pub EndsWithLent : RunBits → Position → Position → Type 0
 EndsWithLent (Lent bits) old new = EndsWith (bits_of bits) old new
 EndsWithLent (Joined bits) old new = Unit {0}

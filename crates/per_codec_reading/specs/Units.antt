@@ -1,4 +1,4 @@
--- Units of one width, as bits.
+-- Units of one width after a length determinant, as bits, and which fragments may follow one another (X.691 11.9).
 use Rattle.std.specs.Prelude.{ℕ, zero, suc, ◌*◌, ◌==◌, ltb, ◌||◌, Bool, true, List, [], ◌∷◌, length, take, drop, map}
 use Rattle.asn1_model.specs.Form.{exactly, both, only_if}
 use Rattle.asn1_model.specs.Per

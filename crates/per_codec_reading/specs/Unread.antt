@@ -1,4 +1,4 @@
--- Unread codes.
+-- The bits of character codes that are still unread: some in a number, the others in a view (X.691 30.5).
 use Rattle.std.specs.Prelude.{ℕ, ◌*◌, Bool, List, ◌++◌}
 use Rattle.asn1_model.specs.Numbers.{binary}
 use Rattle.asn1_values_bits.specs.BitStr.{bits_of}

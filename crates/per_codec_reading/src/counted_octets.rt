@@ -27,7 +27,9 @@ fn borrowed(octets: &[u8]) -> CowSlice<'_, u8>
     CowSlice::Borrowed(octets)
 }
 
-/// A copy of the bits, which are whole octets.
+/// A copy of the bits, which are whole octets. Out of line, where the number of octets is any, so that they are filled
+/// at once.
+#[inline(never)]
 fn copied_bits(alloc: Global, bits: BitStr<'_>) -> Result<BitBuffer, AllocError>
     requires { length (bits_of bits) % 8 ≡ 0 }
     ensures { IfOk result (λ copy. copy ≡ bits_of bits.entry) }

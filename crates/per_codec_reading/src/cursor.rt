@@ -51,6 +51,18 @@ impl<'input> Cursor<'input> {
         }
     }
 
+    /// A cursor after the first `position` of these bits, all bits of a message or open type.
+    #[inline(always)]
+    pub fn at(bits: BitStr<'input>, position: usize) -> Self
+        requires { position ≤ length (bits_of bits) }
+        ensures { result ≡ (position, drop position (bits_of bits.entry)) }
+    {
+        // For the proof: the number of bits fits in 64 bits.
+        let _count = bits.len();
+        let (_read, unread) = bits.split_at(position);
+        Cursor { position, unread }
+    }
+
     /// A cursor after the first `position` of these bits, all bits of a message or open type. If there are fewer, no
     /// bit is unread.
     #[inline(always)]

@@ -35,7 +35,7 @@ impl Length {
     }
 
     /// Whether this may be after a fragment of `multiple` times 16384 units: a last one always, and another fragment
-    /// if the first one has 65536 units or the rules are not strict (X.691 11.9.3.8).
+    /// if the earlier one has 65536 units or the rules are not strict (X.691 11.9.3.8).
     #[inline(always)]
     pub fn may_follow(self, rules: PackedRules, multiple: usize) -> bool
         ensures { result ≡ length_may_follow (freedoms rules Per.other_fragments) multiple self }

@@ -6,9 +6,9 @@ ghost use Rattle.asn1_model.specs.Per as Per;
 ghost use Rattle.per_codec_laws.specs.Takes.{Front};
 ghost use Rattle.per_codec_reading.specs.Fronts as fronts;
 ghost use Rattle.per_codec_reading.specs.Fronts.{freedoms, Misses};
-ghost use Rattle.per_codec_reading.specs.Lengths.{aligned_within, number_within};
+ghost use Rattle.per_codec_reading.specs.Lengths.{aligned_within, number_within, padded_within};
 
-use crate::padding::read_padding;
+use crate::padding::{read_padding, skip_padding};
 use crate::{Cursor, PackedRules};
 use asn1_schema_errors::DecodeError;
 use asn1_values_bits::free_bits;
@@ -82,34 +82,62 @@ fn is_accepted(rules: PackedRules, number: u128, further: usize) -> bool
     requires fits { number < 2 ^ (8 * (further + 1)) }
     ensures { result ≡ (freedoms rules Per.longer_number || (Numbers.least_octets number == further + 1)) }
 {
-    !rules.is_strict() || needs_octets(number, further)
+    needs_octets(number, further) || !rules.is_strict()
 }
 
-/// Takes the padding and the `further + 1` octets of a number at once, if all readers accept them: the padding is zero,
-/// the number is at most `span` and needs its octets. Otherwise, and if they are many, the cursor stays.
+/// Takes a number of `bits` bits and the padding after it at once, if all readers accept them: the number is at most
+/// `most`, and the padding is zero. Otherwise the cursor stays.
 #[inline(always)]
-fn take_plain(cursor: &mut Cursor<'_>, further: usize, span: u128) -> Option<u128>
+fn take_plain(cursor: &mut Cursor<'_>, bits: usize, most: u128) -> Option<u128>
     ensures stands { IfSome result (λ number. (free : Per.Freedom → Bool)
-        → Front free (aligned_within true (8 * (further + 1)) span number) cursor.old cursor.new) }
-    ensures least { IfSome result (λ number. Numbers.least_octets number ≡ further + 1) }
-    ensures bound { IfSome result (λ number. number ≤ span) }
+        → Front free (padded_within bits most number) cursor.old cursor.new) }
+    ensures bound { IfSome result (λ number. number ≤ most) }
     ensures stays { IfNone result (cursor.new ≡ cursor.old) }
 {
-    if further > 5 {
+    if bits > 48 {
         return None;
     }
-    let width = free_bits(cursor.position()) as usize + 8 * (further + 1);
+    let padding = free_bits(cursor.position().checked_add(bits)?);
+    let width = bits + padding as usize;
     if width > cursor.len() {
         return None;
     }
-    let number = cursor.bits().first_number(width as u32);
-    if number > span || number as u64 >> (8 * further) > 255 || !needs_octets(number, further) {
+    let both = cursor.bits().first_number(width as u32) as u64;
+    let number = (both >> padding) as u128;
+    if number > most || both % (1 << padding) != 0 {
         return None;
     }
-    let Ok(_octets) = cursor.take(width) else {
+    let Ok(_bits) = cursor.take(width) else {
         return None;
     };
     Some(number)
+}
+
+/// Reads a number of `bits` bits that is at most `most`, and the padding after it.
+///
+/// # Errors
+///
+/// `Incomplete` if there are fewer bits, `ValueConstraintNotSatisfied` if the number is above `most`, and
+/// `InvalidPadding` if a bit of the padding is not zero, in strict rules.
+#[inline(always)]
+fn read_padded_within(
+    cursor: &mut Cursor<'_>,
+    rules: PackedRules,
+    bits: usize,
+    most: u128,
+) -> Result<u128, DecodeError>
+    requires { bits ≤ 128 }
+    ensures ok { IfOk result (λ number. Front (freedoms rules)
+        (padded_within bits most number) cursor.old cursor.new) }
+    ensures bound { IfOk result (λ number. number ≤ most) }
+    ensures only { IfErr result (Misses (freedoms rules) (padded_within bits most) cursor.old) }
+{
+    if let Some(number) = take_plain(cursor, bits, most) {
+        return Ok(number);
+    }
+    let number = read_number_within(cursor, rules, bits, most)?;
+    skip_padding(cursor, rules)?;
+    Ok(number)
 }
 
 /// Reads a number whose range has more than 65536 values in the aligned variant: octets after their count. More
@@ -127,11 +155,8 @@ fn read_octets_within(
     ensures only { IfErr result (Misses (freedoms rules) (Per.constrained true span) cursor.old) }
 {
     let most = (octet_width(span) - 1) as u128;
-    let further = read_number_within(cursor, rules, bit_count(most), most)? as usize;
-    if let Some(number) = take_plain(cursor, further, span) {
-        return Ok(number);
-    }
-    let number = read_aligned_within(cursor, rules, 8 * (further + 1), span)?;
+    let further = read_padded_within(cursor, rules, bit_count(most), most)? as usize;
+    let number = read_number_within(cursor, rules, 8 * (further + 1), span)?;
     if !is_accepted(rules, number, further) {
         return Err(DecodeError::NotValidCanonicalEncoding);
     }

@@ -122,13 +122,16 @@ pub(crate) fn read_units_behind<'input>(
     ensures only { IfErr result (MissesRest (freedoms rules) (length_form (fronts.is_aligned rules) length)
         (counted_units (fronts.is_aligned rules) width) cursor.old) }
 {
-    let bits = cursor.take(length.count() * width as usize)?;
     match length {
-        Length::Short(count) => Ok(Run {
-            count,
-            bits: RunBits::Lent(bits),
-        }),
+        Length::Short(count) => {
+            let bits = cursor.take(count * width as usize)?;
+            Ok(Run {
+                count,
+                bits: RunBits::Lent(bits),
+            })
+        }
         Length::Fragment(multiple) => {
+            let bits = cursor.take(multiple * FRAGMENT * width as usize)?;
             let all = read_further(alloc, cursor, rules, width, multiple, bits)?;
             Ok(Run {
                 count: all.0,

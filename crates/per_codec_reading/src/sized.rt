@@ -7,14 +7,14 @@ ghost use Rattle.per_codec_laws.specs.Takes.{Front};
 ghost use Rattle.per_codec_reading.specs.Fronts.{freedoms, Completes, Misses, MissesRest};
 ghost use Rattle.per_codec_reading.specs.Fronts as fronts;
 ghost use Rattle.per_codec_reading.specs.Runs.{units_in, IsLent, InOneRun, EndsWithLent};
-ghost use Rattle.per_codec_reading.specs.Sizes.{contents_have_padding, determinant_form, sized_units};
-ghost use Rattle.per_codec_reading.specs.Sizes.{told_in_front, units_told};
-ghost use Rattle.per_codec_reading.specs.Sizes.{HoldsOneRun, IsDeterminant};
+ghost use Rattle.per_codec_reading.specs.Headings.{contents_have_padding, determinant_form, sized_units};
+ghost use Rattle.per_codec_reading.specs.Headings.{told_in_front, units_by_length};
+ghost use Rattle.per_codec_reading.specs.Headings.{HoldsOneRun, IsDeterminant};
 ghost use Rattle.asn1_model.specs.Form.{exactly};
 
+use crate::headings::{LengthDeterminant, is_accepted_outside, is_admitted, read_heading};
 use crate::padding::read_padding;
 use crate::runs::{Run, RunBits, read_units_behind};
-use crate::sizes::{LengthDeterminant, is_accepted_outside, is_admitted, read_heading};
 use crate::{Cursor, PackedRules};
 use asn1_schema_constraints::{Bounded, Sizes};
 use asn1_schema_errors::DecodeError;
@@ -84,13 +84,13 @@ fn read_units<'input>(
     requires { IsDeterminant determinant }
     ensures ok { IfOk result (λ run. (told : _) → Completes (freedoms rules)
         (determinant_form (fronts.is_aligned rules) (counts_of root) told determinant)
-        (units_told (fronts.is_aligned rules) width (contents_have_padding contents width) (counts_of root) told
+        (units_by_length (fronts.is_aligned rules) width (contents_have_padding contents width) (counts_of root) told
         (units_in run)) cursor.old cursor.new) }
     ensures lent { IfOk result (λ run. HoldsOneRun determinant run.count → IsLent run.bits) }
     ensures last { IfOk result (λ run. EndsWithLent run.bits cursor.old cursor.new) }
     ensures only { IfErr result (λ e. (told : _) → MissesRest (freedoms rules)
         (determinant_form (fronts.is_aligned rules) (counts_of root) told determinant)
-        (units_told (fronts.is_aligned rules) width (contents_have_padding contents width) (counts_of root) told)
+        (units_by_length (fronts.is_aligned rules) width (contents_have_padding contents width) (counts_of root) told)
         cursor.old e) }
 {
     match determinant {

@@ -1,5 +1,7 @@
 -- Bits that begin with characters by their codes (X.691 30.5).
-use Rattle.std.proofs.Common.{◌≡◌, ◌⊎◌, inl, inr, ℕ, zero, suc, ◌-◌, ◌*◌, ◌^◌, ◌<◌, ◌≤◌, ◌==◌, ltb, lit<, Bool, true, false, cond, List, [], ◌∷◌, ◌++◌, length, map, take, drop, Option, Some, None, option_map, refl, ap, sym, ◌∙◌, subst, arith, length-append}
+use Rattle.std.proofs.Common.{◌≡◌, ◌⊎◌, inl, inr, ℕ, zero, suc, ◌-◌, ◌*◌, ◌^◌, ◌<◌, ◌≤◌, ◌==◌, ltb, lit<, Bool, true}
+use Rattle.std.proofs.Common.{false, cond, List, [], ◌∷◌, ◌++◌, length, map, take, drop, Option, Some, None, option_map}
+use Rattle.std.proofs.Common.{refl, ap, sym, ◌∙◌, subst, arith, length-append}
 use Rattle.std.specs.Prelude.{flat_map, is_some, unwrap_or}
 use Rattle.std.proofs.lemmas.Bool.{ltb-true, eqb-true, eq-eqb, and_parts, and_from}
 use Rattle.std.proofs.lemmas.List.{nil_from_length, length-drop, length-take-le}
@@ -28,10 +30,10 @@ use Rattle.asn1_schema_errors.specs.declared.DecodeError.TheVariants.{OutOfMemor
 use Rattle.per_codec_reading.specs.Fronts.{NoneStands, IsFresh, Misses}
 use Rattle.per_codec_reading.proofs.Fronts.{none_misses}
 use Rattle.per_codec_reading.specs.Units.{Units, pieces, units_of}
-use Rattle.per_codec_reading.specs.Sizes.{contents_have_padding, sized_units}
+use Rattle.per_codec_reading.specs.Headings.{contents_have_padding, sized_units}
 use Rattle.per_codec_reading.specs.declared.sized.Contents.TheVariants.{Characters}
 use Rattle.per_codec_reading.proofs.UnitFronts.{length-pieces}
-use Rattle.per_codec_reading_values.specs.Spelled.{Spells, Stuck, IsFitting}
+use Rattle.per_codec_reading_values.specs.CharacterCodes.{Spells, Stuck, IsFitting}
 use Rattle.per_codec_reading_values.proofs.Steps.{front, split_bits}
 
 -- ---- codes fit in their bits
@@ -49,7 +51,8 @@ fitting al rs a s b o = record { fits = λ c n e. fit c n e }
     fit c n e =
         let q = map_parts (place_of c a.runs) (λ i. cond (ltb (largest a.runs) (2 ^ a.code_bits)) c i) n e in
         let f = code_fits al rs c q.0 o (sym (s.places c) ∙ q.1) in
-        let g : cond (ltb (largest rs) (2 ^ Per.character_bits al rs)) c q.0 ≡ n = ap (λ m. cond (ltb m (2 ^ Per.character_bits al rs)) c q.0) (sym s.greatest) ∙ ap (λ m. cond (ltb (largest a.runs) (2 ^ m)) c q.0) (sym b) ∙ q.2 in
+        let g : cond (ltb (largest rs) (2 ^ Per.character_bits al rs)) c q.0 ≡ n =
+        ap (λ m. cond (ltb m (2 ^ Per.character_bits al rs)) c q.0) (sym s.greatest) ∙ ap (λ m. cond (ltb (largest a.runs) (2 ^ m)) c q.0) (sym b) ∙ q.2 in
         subst (λ m. n < 2 ^ m) (sym b) (subst (λ m. m < 2 ^ Per.character_bits al rs) g f)
 
 raised_small : (b : ℕ) (s t u : Bool) → b ≤ 16 → cond s b (cond t 4 (cond u 8 16)) ≤ 16
@@ -80,7 +83,8 @@ pieces_of : (a : Coded) (cs : List ℕ) → pieces a.code_bits (length cs) (flat
 pieces_of a [] = refl
 pieces_of a (c ∷ cs) =
     let f = front (text_of a c) (flat_map (text_of a) cs) a.code_bits (text_long a c) in
-    ap (λ t. t ∷ pieces a.code_bits (length cs) (drop a.code_bits (text_of a c ++ flat_map (text_of a) cs))) f.0 ∙ ap (λ r. text_of a c ∷ pieces a.code_bits (length cs) r) f.1 ∙ ap (λ l. text_of a c ∷ l) (pieces_of a cs)
+    ap (λ t. t ∷ pieces a.code_bits (length cs) (drop a.code_bits (text_of a c ++ flat_map (text_of a) cs))) f.0 ∙
+    ap (λ r. text_of a c ∷ pieces a.code_bits (length cs) r) f.1 ∙ ap (λ l. text_of a c ∷ l) (pieces_of a cs)
 
 rest_long : (w n : ℕ) (bs : List Bool) → length bs ≡ suc n * w → (w ≤ length bs) × (length (drop w bs) ≡ n * w)
 rest_long w n bs l = let m = suc-mul n w in let d = length-drop w bs in (omega arith, omega arith)
@@ -139,13 +143,15 @@ wide_texts a (c ∷ cs) = (text_long a c, wide_texts a cs)
 abbrev by_place : ℕ → ℕ → ℕ → Option ℕ → Per.BitForm
 by_place n b c o = given o (λ i. exactly (binary b (cond (ltb n (2 ^ b)) c i)))
 
-coded_form : (n b c : ℕ) (o : Option ℕ) → is_some (option_map (λ i. cond (ltb n (2 ^ b)) c i) o) ≡ true → by_place n b c o ≡ exactly (binary b (unwrap_or (option_map (λ i. cond (ltb n (2 ^ b)) c i) o) 0))
+coded_form : (n b c : ℕ) (o : Option ℕ) → is_some (option_map (λ i. cond (ltb n (2 ^ b)) c i) o) ≡ true →
+    by_place n b c o ≡ exactly (binary b (unwrap_or (option_map (λ i. cond (ltb n (2 ^ b)) c i) o) 0))
 coded_form n b c (Some i) e = refl
 coded_form n b c None e = cc
 
 one_form : (a : Coded) (rs : List Run) (c : ℕ) → SameCharacters a.runs rs → has_code a c ≡ true → Per.character a.code_bits rs c ≡ exactly (text_of a c)
 unfolding Per.character
-one_form a rs c s h = ap (by_place (largest rs) a.code_bits c) (sym (s.places c)) ∙ ap (λ n. by_place n a.code_bits c (place_of c a.runs)) (sym s.greatest) ∙ coded_form (largest a.runs) a.code_bits c (place_of c a.runs) h
+one_form a rs c s h = ap (by_place (largest rs) a.code_bits c) (sym (s.places c)) ∙
+    ap (λ n. by_place n a.code_bits c (place_of c a.runs)) (sym s.greatest) ∙ coded_form (largest a.runs) a.code_bits c (place_of c a.runs) h
 
 forms : (a : Coded) (rs : List Run) (cs : List ℕ) → SameCharacters a.runs rs → list_all (has_code a) cs ≡ true → map (Per.character a.code_bits rs) cs ≡ map (λ t. exactly t) (map (text_of a) cs)
 forms a rs [] s h = refl
@@ -164,23 +170,31 @@ pairs_coded a rs [] s p = refl
 pairs_coded a rs (c ∷ cs) s p = and_from _ _ (mapped_some (λ i. cond (ltb (largest a.runs) (2 ^ a.code_bits)) c i) (place_of c a.runs) (ap is_some (s.places c) ∙ p.0)) (pairs_coded a rs cs s p.1)
 
 module _ (free : Per.Freedom → Bool) (al : Bool) where
-  wide_alike : (w : ℕ) (z : Size) (held : Counts) (has_padding has_padding' : Counts → Bool) (ts us : List (List Bool)) → AreWide w ts → AreWide w us → (length ts ≡ length us → has_padding z.counts ≡ has_padding' z.counts) → Alike free (Per.sized al z held has_padding (map (λ t. exactly t) ts)) (Per.sized al z held has_padding' (map (λ t. exactly t) us)) (ts ≡ us)
+  wide_alike : (w : ℕ) (z : Size) (held : Counts) (has_padding has_padding' : Counts → Bool) (ts us : List (List Bool)) → AreWide w ts →
+      AreWide w us → (length ts ≡ length us → has_padding z.counts ≡ has_padding' z.counts) →
+      Alike free (Per.sized al z held has_padding (map (λ t. exactly t) ts)) (Per.sized al z held has_padding' (map (λ t. exactly t) us)) (ts ≡ us)
   wide_alike w z held has_padding has_padding' ts us h k e =
-      let x = sized_alike free (Wide w) (SameTexts w) (form_of w) (λ x y. agree_exactly free x.0 y.0 (x.1 ∙ sym y.1)) al z held has_padding has_padding' (wides w ts h) (wides w us k) (λ n. e (sym (length-wides w ts h) ∙ n ∙ length-wides w us k)) in
+      let x = sized_alike free (Wide w) (SameTexts w) (form_of w) (λ x y. agree_exactly free x.0 y.0 (x.1 ∙ sym y.1)) al z held has_padding
+      has_padding' (wides w ts h) (wides w us k) (λ n. e (sym (length-wides w ts h) ∙ n ∙ length-wides w us k)) in
       let y = agree_map free (wides_equal w ts us h k) x in
-      subst (λ f. Alike free (Per.sized al z held has_padding f) (Per.sized al z held has_padding' (map (λ t. exactly t) us)) (ts ≡ us)) (wide_forms w ts h) (subst (λ f. Alike free (Per.sized al z held has_padding (map (form_of w) (wides w ts h))) (Per.sized al z held has_padding' f) (ts ≡ us)) (wide_forms w us k) y)
+      subst (λ f. Alike free (Per.sized al z held has_padding f) (Per.sized al z held has_padding' (map (λ t. exactly t) us)) (ts ≡ us))
+      (wide_forms w ts h) (subst (λ f. Alike free (Per.sized al z held has_padding (map (form_of w) (wides w ts h))) (Per.sized al z held has_padding' f) (ts ≡ us)) (wide_forms w us k) y)
 
   placed_alike : (rs : List Run) → Orderly rs → (c d : ℕ) → Alike free (Per.character (Per.character_bits al rs) rs c) (Per.character (Per.character_bits al rs) rs d) (HasPlace rs c d)
   unfolding Per.character
-  placed_alike rs o c d = agree_given free (place_of c rs) (place_of d rs) _ _ (λ i j e f. agree_map free (λ q. ap is_some e) (binary_alike free (Per.character_bits al rs) _ _ (code_fits al rs c i o e) (code_fits al rs d j o f)))
+  placed_alike rs o c d = agree_given free (place_of c rs) (place_of d rs) _ _
+      (λ i j e f. agree_map free (λ q. ap is_some e) (binary_alike free (Per.character_bits al rs) _ _ (code_fits al rs c i o e) (code_fits al rs d j o f)))
 
-  all_coded : (z : Size) (held : Counts) (a : Coded) (rs : List Run) (cs : List ℕ) (p q : Position) → SameCharacters a.runs rs → Orderly rs → Front free (Per.characters al z held rs cs) p q → list_all (has_code a) cs ≡ true
+  all_coded : (z : Size) (held : Counts) (a : Coded) (rs : List Run) (cs : List ℕ) (p q : Position) → SameCharacters a.runs rs → Orderly rs →
+      Front free (Per.characters al z held rs cs) p q → list_all (has_code a) cs ≡ true
   unfolding Per.characters
   all_coded z held a rs cs p q s o f =
-      let x = sized_alike free ℕ (HasPlace rs) (Per.character (Per.character_bits al rs) rs) (placed_alike rs o) al z held (Per.characters_have_padding (Per.character_bits al rs) (length cs)) (Per.characters_have_padding (Per.character_bits al rs) (length cs)) cs cs (λ n. refl) in
+      let x = sized_alike free ℕ (HasPlace rs) (Per.character (Per.character_bits al rs) rs) (placed_alike rs o) al z held
+      (Per.characters_have_padding (Per.character_bits al rs) (length cs)) (Per.characters_have_padding (Per.character_bits al rs) (length cs)) cs cs (λ n. refl) in
       pairs_coded a rs cs s (same_fronts free x p q q f f).0
 
-module _ (free : Per.Freedom → Bool) (al : Bool) (k : StringKind) (z : Size) (l : Alphabet) (a : Coded) (s : SameCharacters a.runs (permitted k l)) (b : a.code_bits ≡ Per.character_bits al (permitted k l)) (o : is_of_octets k ≡ false) (holds : (cs : List ℕ) → may_hold k cs ≡ permits_all k cs) where
+module _ (free : Per.Freedom → Bool) (al : Bool) (k : StringKind) (z : Size) (l : Alphabet) (a : Coded) (s : SameCharacters a.runs (permitted k l))
+    (b : a.code_bits ≡ Per.character_bits al (permitted k l)) (o : is_of_octets k ≡ false) (holds : (cs : List ℕ) → may_hold k cs ≡ permits_all k cs) where
   abbrev in_codes : List ℕ → Per.BitForm
   in_codes cs = Per.sized al z any_count (Per.characters_have_padding a.code_bits (length cs)) (map (λ t. exactly t) (map (text_of a) cs))
 
@@ -189,17 +203,21 @@ module _ (free : Per.Freedom → Bool) (al : Bool) (k : StringKind) (z : Size) (
 
   of_width : (cs : List ℕ) → list_all (has_code a) cs ≡ true → Per.characters al z any_count (permitted k l) cs ≡ in_codes cs
   unfolding Per.characters
-  of_width cs h = ap (λ n. Per.sized al z any_count (Per.characters_have_padding n (length cs)) (map (Per.character n (permitted k l)) cs)) (sym b) ∙ ap (λ us. Per.sized al z any_count (Per.characters_have_padding a.code_bits (length cs)) us) (forms a (permitted k l) cs s h)
+  of_width cs h = ap (λ n. Per.sized al z any_count (Per.characters_have_padding n (length cs)) (map (Per.character n (permitted k l)) cs)) (sym b) ∙
+      ap (λ us. Per.sized al z any_count (Per.characters_have_padding a.code_bits (length cs)) us) (forms a (permitted k l) cs s h)
 
-  pub codes_stand : (us : Units) (cs : List ℕ) (p q : Position) → Front free (of_units us) p q → length cs ≡ us.0 → Spells k a cs us.1 → Front free (Per.form al (character_string k z l any_count) (text cs)) p q
+  pub codes_stand : (us : Units) (cs : List ℕ) (p q : Position) → Front free (of_units us) p q → length cs ≡ us.0 → Spells k a cs us.1 →
+      Front free (Per.form al (character_string k z l any_count) (text cs)) p q
   unfolding Per.form Per.string_form
   codes_stand us cs p q f e t =
       let i = if_out free (length us.1 == us.0 * a.code_bits) _ p q f in
-      let g : units_of a.code_bits us.0 us.1 ≡ map (λ t. exactly t) (map (text_of a) cs) = ap (λ w. units_of a.code_bits us.0 w) (sym t.spelled) ∙ ap (λ n. units_of a.code_bits n (flat_map (text_of a) cs)) (sym e) ∙ ap (map (λ u. exactly u)) (pieces_of a cs) in
+      let g : units_of a.code_bits us.0 us.1 ≡ map (λ t. exactly t) (map (text_of a) cs) = ap (λ w. units_of a.code_bits us.0 w) (sym t.spelled) ∙
+      ap (λ n. units_of a.code_bits n (flat_map (text_of a) cs)) (sym e) ∙ ap (map (λ u. exactly u)) (pieces_of a cs) in
       let x = subst (λ ts. Front free (Per.sized al z any_count (Per.characters_have_padding a.code_bits us.0) ts) p q) g i.1 in
       let y : Front free (in_codes cs) p q = subst (λ n. Front free (Per.sized al z any_count (Per.characters_have_padding a.code_bits n) (map (λ t. exactly t) (map (text_of a) cs))) p q) (sym e) x in
       let v = subst (λ f. Front free f p q) (sym (of_width cs t.coded)) y in
-      if_in free (may_hold k cs) _ p q (holds cs ∙ t.permitted) (subst (λ t. Front free (cond t (only_if (is_count_within any_count (length cs)) (Per.counted_octets al cs)) (Per.characters al z any_count (permitted k l) cs)) p q) (sym o) v)
+      if_in free (may_hold k cs) _ p q (holds cs ∙ t.permitted)
+      (subst (λ t. Front free (cond t (only_if (is_count_within any_count (length cs)) (Per.counted_octets al cs)) (Per.characters al z any_count (permitted k l) cs)) p q) (sym o) v)
 
   record Told (p q : Position) : Type 0 where
     pub told : List ℕ
@@ -219,7 +237,8 @@ module _ (free : Per.Freedom → Bool) (al : Bool) (k : StringKind) (z : Size) (
   no_codes w p n v q f =
       let x = told_of w v p q f in
       let ws = flat_map (text_of a) x.told in
-      n (length x.told, ws) q (if_in free (length ws == length x.told * a.code_bits) _ p q (eq-eqb _ _ (length-spelled a x.told)) (subst (λ ts. Front free (Per.sized al z any_count (Per.characters_have_padding a.code_bits (length x.told)) (map (λ t. exactly t) ts)) p q) (sym (pieces_of a x.told)) x.front_of))
+      n (length x.told, ws) q (if_in free (length ws == length x.told * a.code_bits) _ p q (eq-eqb _ _ (length-spelled a x.told))
+      (subst (λ ts. Front free (Per.sized al z any_count (Per.characters_have_padding a.code_bits (length x.told)) (map (λ t. exactly t) ts)) p q) (sym (pieces_of a x.told)) x.front_of))
 
   length-texts : (cs : List ℕ) → length (map (text_of a) cs) ≡ length cs
   length-texts [] = refl
@@ -230,12 +249,16 @@ module _ (free : Per.Freedom → Bool) (al : Bool) (k : StringKind) (z : Size) (
       let x = told_of w v p q f in
       let i = if_out free (length us.1 == us.0 * a.code_bits) _ p c g in
       let n = eqb-true _ _ i.0 in
-      let u = wide_alike free al a.code_bits z any_count (Per.characters_have_padding a.code_bits us.0) (Per.characters_have_padding a.code_bits (length x.told)) (pieces a.code_bits us.0 us.1) (map (text_of a) x.told) (wide_pieces a.code_bits us.0 us.1 n) (wide_texts a x.told) (λ e. ap (λ m. Per.characters_have_padding a.code_bits m z.counts) (sym (length-pieces a.code_bits us.0 us.1) ∙ e ∙ length-texts x.told)) in
+      let u = wide_alike free al a.code_bits z any_count (Per.characters_have_padding a.code_bits us.0)
+      (Per.characters_have_padding a.code_bits (length x.told)) (pieces a.code_bits us.0 us.1) (map (text_of a) x.told)
+      (wide_pieces a.code_bits us.0 us.1 n) (wide_texts a x.told) (λ e.
+      ap (λ m. Per.characters_have_padding a.code_bits m z.counts) (sym (length-pieces a.code_bits us.0 us.1) ∙ e ∙ length-texts x.told)) in
       let r = spelled_pieces a us.0 us.1 x.told n (same_fronts free u p c q i.1 x.front_of).0 in
       let d = x.spells in
       t x.told r.0 (record { permitted = d.permitted; coded = d.coded; spelled = r.1 })
 
 -- Codes of no characters are refused, or memory ran out.
-pub refused_codes : (free : Per.Freedom → Bool) (x : Value → Per.BitForm) (k : StringKind) (a : Coded) (us : Units) (p : Position) (e : DecodeError) → IsFitting a → (Stuck k a us.0 us.1 → NoneStands free x p) → (e ≡ OutOfMemory) ⊎ (IsFitting a → Stuck k a us.0 us.1) → IsFresh e → Misses free x p e
+pub refused_codes : (free : Per.Freedom → Bool) (x : Value → Per.BitForm) (k : StringKind) (a : Coded) (us : Units) (p : Position) (e : DecodeError) →
+    IsFitting a → (Stuck k a us.0 us.1 → NoneStands free x p) → (e ≡ OutOfMemory) ⊎ (IsFitting a → Stuck k a us.0 us.1) → IsFresh e → Misses free x p e
 refused_codes free x k a us p e f h (inl m) n = subst (Misses free x p) (sym m) tt
 refused_codes free x k a us p e f h (inr s) n = none_misses free x p e n (h (s f))

@@ -38,12 +38,14 @@ module _ (free : Per.Freedom → Bool) (al : Bool) (k : StringKind) (z : Size) (
   unfolding Per.counted_octets
   are_octets os p q f = (if_out free (list_all is_octet os) _ p q f).0
 
-  pub octets_stand : ((cs : List ℕ) → may_hold k cs ≡ permits_all k cs) → (os : List ℕ) (p q : Position) → Front free (Per.counted_octets al os) p q → Front free (Per.form al (character_string k z l any_count) (text os)) p q
+  pub octets_stand : ((cs : List ℕ) → may_hold k cs ≡ permits_all k cs) → (os : List ℕ) (p q : Position) → Front free (Per.counted_octets al os) p q →
+      Front free (Per.form al (character_string k z l any_count) (text os)) p q
   unfolding Per.form Per.string_form
   octets_stand holds os p q f =
       let m : permits_all k os ≡ true = ap (λ rs. list_all (is_among rs) os) (all_octets k o) ∙ among_octets os (are_octets os p q f) in
       let x = if_in free (is_count_within any_count (length os)) _ p q (and_from _ _ (le-leb 0 (length os) (omega arith)) refl) f in
-      if_in free (may_hold k os) _ p q (holds os ∙ m) (subst (λ t. Front free (cond t (only_if (is_count_within any_count (length os)) (Per.counted_octets al os)) (Per.characters al z any_count (permitted k l) os)) p q) (sym o) x)
+      if_in free (may_hold k os) _ p q (holds os ∙ m)
+      (subst (λ t. Front free (cond t (only_if (is_count_within any_count (length os)) (Per.counted_octets al os)) (Per.characters al z any_count (permitted k l) os)) p q) (sym o) x)
 
   pub no_octets : (p : Position) → NoneStands free (Per.counted_octets al) p → NoneStands free (Per.form al (character_string k z l any_count)) p
   unfolding Per.form Per.string_form

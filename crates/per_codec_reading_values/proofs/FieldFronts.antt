@@ -1,5 +1,7 @@
 -- Bits with which an encoding begins and that are taken as a whole.
-use Rattle.std.proofs.Common.{◌≡◌, ◌⊎◌, inl, inr, ℕ, ◌+◌, ◌-◌, ◌*◌, ◌/◌, ◌^◌, ◌<◌, ◌==◌, leb, ltb, cond, not, ◌&&◌, ◌||◌, Bool, true, false, IsTrue, List, [], ◌∷◌, ◌++◌, length, refl, ap, sym, ◌∙◌, subst, length-append, arith}
+use Rattle.std.proofs.Common.{◌≡◌, ◌⊎◌, inl, inr, ℕ, ◌+◌, ◌-◌, ◌*◌, ◌/◌, ◌^◌, ◌<◌, ◌==◌, leb, ltb, cond, not, ◌&&◌}
+use Rattle.std.proofs.Common.{◌||◌, Bool, true, false, IsTrue, List, [], ◌∷◌, ◌++◌, length, refl, ap, sym, ◌∙◌, subst}
+use Rattle.std.proofs.Common.{length-append, arith}
 use Rattle.std.proofs.lemmas.Bool.{leb-true, le-leb, lt-ltb, eqb-true, eq-eqb, and_parts, and_from, false≢true}
 use Rattle.asn1_model.specs.Numbers.{binary, octet_bits, packed}
 use Rattle.asn1_model.specs.Strings.{is_octet}
@@ -74,9 +76,9 @@ module _ (free : Per.Freedom → Bool) where
         let e = packed_back us.0 us.1 k in
         (packed us.1, e, octets_front free al us (packed us.1) a b f (packed_octets us.0 us.1 k) e)
 
-    pub units_told : (os : List ℕ) (a b : Position) → Front free (Per.counted_octets al os) a b → Front free (counted_units al 8 (length os, octet_bits os)) a b
+    pub units_by_length : (os : List ℕ) (a b : Position) → Front free (Per.counted_octets al os) a b → Front free (counted_units al 8 (length os, octet_bits os)) a b
     unfolding Per.counted_octets
-    units_told os a b f =
+    units_by_length os a b f =
         let i = if_out free (list_all is_octet os) _ a b f in
         if_in free (length (octet_bits os) == length os * 8) _ a b (eq-eqb _ _ (length-octet_bits os)) (subst (λ x. Front free (Per.counted al x) a b) (sym (octet_pieces os)) i.1)
 
@@ -84,7 +86,8 @@ module _ (free : Per.Freedom → Bool) where
     abbrev long_or_short : List Per.BitForm → Bool → Per.BitForm
     long_or_short us long = cond long (both (exactly (true ∷ [])) (Per.counted al us)) (only_if (Per.is_from_1_to_64 (length us)) (both (exactly (false ∷ binary 6 (length us - 1))) (joined us)))
 
-    pub long_bitmap : (us : Units) (a m b : Position) → (free Per.long_small_number || not (Per.is_from_1_to_64 us.0)) ≡ true → Front free (one_bit true) a m → Front free (counted_units al 1 us) m b → Front free (few_form al us.1) a b
+    pub long_bitmap : (us : Units) (a m b : Position) → (free Per.long_small_number || not (Per.is_from_1_to_64 us.0)) ≡ true →
+        Front free (one_bit true) a m → Front free (counted_units al 1 us) m b → Front free (few_form al us.1) a b
     unfolding Per.normally_few
     long_bitmap us a m b t f g =
         let n = counted_size free al 1 us.0 us.1 m b g in
@@ -92,10 +95,12 @@ module _ (free : Per.Freedom → Bool) where
         let i = if_out free (length us.1 == us.0 * 1) (Per.counted al (units_of 1 us.0 us.1)) m b g in
         let h = subst (λ x. Front free (Per.counted al x) m b) (ap (λ j. units_of 1 j us.1) k ∙ bit_pieces us.1) i.1 in
         let q : us.0 ≡ length (Per.bit_units us.1) = k ∙ sym (bit_count us.1) in
-        let may : (true ≡ not (Per.is_from_1_to_64 (length (Per.bit_units us.1)))) ⊎ IsTrue (free Per.long_small_number) = elim (or_free _ _ t) [ inl e ↦ inl (sym e ∙ ap (λ j. not (Per.is_from_1_to_64 j)) q) | inr e ↦ inr e ] in
+        let may : (true ≡ not (Per.is_from_1_to_64 (length (Per.bit_units us.1)))) ⊎ IsTrue (free Per.long_small_number) =
+        elim (or_free _ _ t) [ inl e ↦ inl (sym e ∙ ap (λ j. not (Per.is_from_1_to_64 j)) q) | inr e ↦ inr e ] in
         varied_in free (λ long. long_or_short (Per.bit_units us.1) long) true may a b (join free (exactly (true ∷ [])) (Per.counted al (Per.bit_units us.1)) a m b f h)
 
-    pub short_bitmap : (n : ℕ) (bs : List Bool) (a m p b : Position) → Front free (one_bit false) a m → Front free (number_within 6 63 n) m p → length bs ≡ n + 1 → Leads bs p b → Front free (few_form al bs) a b
+    pub short_bitmap : (n : ℕ) (bs : List Bool) (a m p b : Position) → Front free (one_bit false) a m → Front free (number_within 6 63 n) m p →
+        length bs ≡ n + 1 → Leads bs p b → Front free (few_form al bs) a b
     unfolding Per.normally_few
     short_bitmap n bs a m p b f g l h =
         let us = Per.bit_units bs in
@@ -104,7 +109,8 @@ module _ (free : Per.Freedom → Bool) where
         let d : length us - 1 ≡ n = omega (arith, q) in
         let u = w.bound in
         let c : Per.is_from_1_to_64 (length us) ≡ true = and_from _ _ (le-leb 1 (length us) (omega (arith, q))) (le-leb (length us) 64 (omega (arith, q, u))) in
-        let head : Front free (exactly (false ∷ binary 6 n)) a p = exactly_in free (false ∷ binary 6 n) a p (leads_join (false ∷ []) (binary 6 n) a m p (exactly_out free (false ∷ []) a m f) (exactly_out free (binary 6 n) m p w.stands)) in
+        let head : Front free (exactly (false ∷ binary 6 n)) a p = exactly_in free (false ∷ binary 6 n) a p
+        (leads_join (false ∷ []) (binary 6 n) a m p (exactly_out free (false ∷ []) a m f) (exactly_out free (binary 6 n) m p w.stands)) in
         let own : Front free (exactly (false ∷ binary 6 (length us - 1))) a p = subst (λ k. Front free (exactly (false ∷ binary 6 k)) a p) (sym d) head in
         let rest : Front free (joined us) p b = subst (λ x. Front free (joined x) p b) (bit_pieces bs) (units_in free 1 (length bs) bs p b (omega arith) h) in
         varied_in free (λ long. long_or_short us long) false (inl (sym (ap not c))) a b (if_in free (Per.is_from_1_to_64 (length us)) _ a b c (join free _ (joined us) a p b own rest))
@@ -116,8 +122,12 @@ module _ (free : Per.Freedom → Bool) where
 
     cases_out : (long : Bool) (bs : List Bool) (a b : Position) → Front free (long_or_short (Per.bit_units bs) long) a b → (m : Position) × Front free (one_bit long) a m × Behind long bs m b
     cases_out true bs a b f =
-        let s = split free (exactly (true ∷ [])) (Per.counted al (Per.bit_units bs)) a b f in
-        (s.0, s.1, if_in free (length bs == length bs * 1) (Per.counted al (units_of 1 (length bs) bs)) s.0 b (eq-eqb _ _ (omega arith)) (subst (λ x. Front free (Per.counted al x) s.0 b) (sym (bit_pieces bs)) s.2))
+        let s = split free (exactly (true ∷ [])) (Per.counted al (Per.bit_units bs)) a b f in (
+          s.0,
+          s.1,
+          if_in free (length bs == length bs * 1) (Per.counted al (units_of 1 (length bs) bs)) s.0 b (eq-eqb _ _ (omega arith))
+              (subst (λ x. Front free (Per.counted al x) s.0 b) (sym (bit_pieces bs)) s.2),
+        )
     cases_out false bs a b f =
         let us = Per.bit_units bs in
         let i = if_out free (Per.is_from_1_to_64 (length us)) _ a b f in
@@ -131,11 +141,13 @@ module _ (free : Per.Freedom → Bool) where
         let m : Position = (a.0 + 1, binary 6 n ++ s.0.1) in
         let l : length bs ≡ n + 1 = sym (bit_count bs) ∙ omega (arith, lo) in
         let small : n < 2 ^ 6 = omega (arith, hi, lo) in
-        let number : Front free (number_within 6 63 n) m s.0 = if_in free (leb n 63 && ltb n (2 ^ 6)) (exactly (binary 6 n)) m s.0 (and_from _ _ (le-leb n 63 (omega (arith, hi))) (lt-ltb n (2 ^ 6) small)) (exactly_in free (binary 6 n) m s.0 (refl, omega (arith, k))) in
+        let number : Front free (number_within 6 63 n) m s.0 = if_in free (leb n 63 && ltb n (2 ^ 6)) (exactly (binary 6 n)) m s.0
+        (and_from _ _ (le-leb n 63 (omega (arith, hi))) (lt-ltb n (2 ^ 6) small)) (exactly_in free (binary 6 n) m s.0 (refl, omega (arith, k))) in
         let bits = units_out free 1 (length bs) bs s.0 b (omega arith) (subst (λ x. Front free (joined x) s.0 b) (sym (bit_pieces bs)) s.2) in
         (m, exactly_in free (false ∷ []) a m (h.0, refl), (n, s.0, number, l, bits))
 
-    bitmap_out : (bs : List Bool) (a b : Position) → Front free (few_form al bs) a b → (long : Bool) × (m : Position) × Front free (one_bit long) a m × Behind long bs m b × ((long ≡ not (Per.is_from_1_to_64 (length bs))) ⊎ IsTrue (free Per.long_small_number))
+    bitmap_out : (bs : List Bool) (a b : Position) → Front free (few_form al bs) a b → (long : Bool) × (m : Position) ×
+        Front free (one_bit long) a m × Behind long bs m b × ((long ≡ not (Per.is_from_1_to_64 (length bs))) ⊎ IsTrue (free Per.long_small_number))
     unfolding Per.normally_few
     bitmap_out bs a b f =
         let v = varied_out free (λ long. long_or_short (Per.bit_units bs) long) a b f in
@@ -152,12 +164,14 @@ module _ (free : Per.Freedom → Bool) where
         subst (λ p. Behind v bs p b) (sym q.1) (subst (λ u. Behind u bs s.1 b) (sym q.0) s.3)
 
     -- a long form that the reader does not accept
-    pub not_long : (us : Units) (a m b : Position) → (free Per.long_small_number || not (Per.is_from_1_to_64 us.0)) ≡ false → Front free (one_bit true) a m → Front free (counted_units al 1 us) m b → NoneStands free (few_form al) a
+    pub not_long : (us : Units) (a m b : Position) → (free Per.long_small_number || not (Per.is_from_1_to_64 us.0)) ≡ false →
+        Front free (one_bit true) a m → Front free (counted_units al 1 us) m b → NoneStands free (few_form al) a
     not_long us a m b t f h bs c g =
         let s = bitmap_out bs a c g in
         let q = bit_one true s.0 a m s.1 f s.2 in
         let e = counted_one free al 1 us (length bs, bs) m b c h (behind_bit true bs a m c f g) in
-        let may : (not (Per.is_from_1_to_64 us.0) ≡ true) ⊎ IsTrue (free Per.long_small_number) = elim s.4 [ inl l ↦ inl (ap (λ j. not (Per.is_from_1_to_64 j)) e ∙ sym l ∙ sym q.0) | inr l ↦ inr l ] in
+        let may : (not (Per.is_from_1_to_64 us.0) ≡ true) ⊎ IsTrue (free Per.long_small_number) =
+        elim s.4 [ inl l ↦ inl (ap (λ j. not (Per.is_from_1_to_64 j)) e ∙ sym l ∙ sym q.0) | inr l ↦ inr l ] in
         false≢true (sym t ∙ free_or _ _ may)
 
     pub no_long_bitmap : (a m : Position) → Front free (one_bit true) a m → NoneStands free (counted_units al 1) m → NoneStands free (few_form al) a

@@ -14,7 +14,8 @@ in_fragments : (o n e : ℕ) → 8 * 16384 ≤ n → storage_inside (Some o) n e
 in_fragments o n e l = let h = le-ltb n (8 * 16384) l in ap (λ t. cond t (Some ((o + e) % 8)) None) h
 
 -- Octets in one run are stored with the bits from which they are borrowed, others in a separate buffer.
-pub lent_inside : (o e n : ℕ) (bits : RunBits) (s : Storage) → length (bits_in bits) ≡ n → n % 8 ≡ 0 → LentInOneRun bits → (IsLent bits → length (bits_in bits) % 8 ≡ 0 → s ≡ Some ((o + e) % 8)) → ((IsLent bits → ⊥) → s ≡ None) → s ≡ storage_inside (Some o) n e
+pub lent_inside : (o e n : ℕ) (bits : RunBits) (s : Storage) → length (bits_in bits) ≡ n → n % 8 ≡ 0 → LentInOneRun bits →
+    (IsLent bits → length (bits_in bits) % 8 ≡ 0 → s ≡ Some ((o + e) % 8)) → ((IsLent bits → ⊥) → s ≡ None) → s ≡ storage_inside (Some o) n e
 lent_inside o e n (Lent bits) s q w h k j =
     let l : n < 8 * 16384 = subst (λ m. m < 8 * 16384) q (h.0 tt) in
     k tt (subst (λ m. m % 8 ≡ 0) (sym q) w) ∙ sym (in_one_run o n e l)

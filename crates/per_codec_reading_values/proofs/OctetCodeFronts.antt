@@ -30,11 +30,13 @@ pub not_all : (k : StringKind) (refused : ℕ → InvalidRestrictedString) (cs :
 not_all k refused [] e h = cc
 not_all k refused (c ∷ cs) e h = go (permits k c) (not_all k refused cs e) h
   where
-    go : (t : Bool) → (option_map refused (first_refused k cs) ≡ Some e → permits_all k cs ≡ false) → option_map refused (cond (not t) (Some c) (first_refused k cs)) ≡ Some e → (t && permits_all k cs) ≡ false
+    go : (t : Bool) → (option_map refused (first_refused k cs) ≡ Some e → permits_all k cs ≡ false) →
+        option_map refused (cond (not t) (Some c) (first_refused k cs)) ≡ Some e → (t && permits_all k cs) ≡ false
     go true f h = f h
     go false f h = refl
 
-module _ (free : Per.Freedom → Bool) (al : Bool) (k : StringKind) (z : Option (Extensible Size)) (l : Option (Extensible PermittedAlphabet)) (e : is_encoded_as_octets al k z l ≡ true) (holds : (cs : List ℕ) → may_hold k cs ≡ permits_all k cs) where
+module _ (free : Per.Freedom → Bool) (al : Bool) (k : StringKind) (z : Option (Extensible Size)) (l : Option (Extensible PermittedAlphabet))
+    (e : is_encoded_as_octets al k z l ≡ true) (holds : (cs : List ℕ) → may_hold k cs ≡ permits_all k cs) where
   abbrev in_codes : Bool → List ℕ → Per.BitForm
   in_codes t cs = cond t (only_if (is_count_within any_count (length cs)) (Per.counted_octets al cs)) (Per.characters al (sizes_of z) any_count (permitted k (alphabet_of l)) cs)
 
@@ -66,6 +68,7 @@ module _ (free : Per.Freedom → Bool) (al : Bool) (k : StringKind) (z : Option 
       false≢true (sym m ∙ ap (permits_all k) same ∙ t.1)
 
   -- Octets that are not all characters are refused, or memory ran out.
-  pub refused_octets : (os : List ℕ) (p c : Position) (x : DecodeError) → Front free (Per.counted_octets al os) p c → (x ≡ OutOfMemory) ⊎ (permits_all k os ≡ false) → IsFresh x → Misses free string_form p x
+  pub refused_octets : (os : List ℕ) (p c : Position) (x : DecodeError) → Front free (Per.counted_octets al os) p c →
+      (x ≡ OutOfMemory) ⊎ (permits_all k os ≡ false) → IsFresh x → Misses free string_form p x
   refused_octets os p c x g (inl m) n = subst (Misses free string_form p) (sym m) tt
   refused_octets os p c x g (inr m) n = none_misses free string_form p x n (no_string os p c m g)

@@ -1,6 +1,8 @@
 -- The bits with which a number in octets begins, after its length determinant.
 use Rattle.asn1_model.specs.Schema.{wide_range}
-use Rattle.std.proofs.Common.{◌≡◌, ℕ, zero, suc, ◌^◌, ◌≤◌, ◌<◌, leb, ltb, ◌==◌, ◌+◌, ◌*◌, not, ◌&&◌, ◌||◌, ℤ, Bool, true, false, IsTrue, ◌⊎◌, inl, inr, List, [], ◌∷◌, length, refl, sym, ap, ◌∙◌, subst, arith}
+use Rattle.std.proofs.Common.{◌≡◌, ℕ, zero, suc, ◌^◌, ◌≤◌, ◌<◌, leb, ltb, ◌==◌, ◌+◌, ◌*◌, not, ◌&&◌, ◌||◌, ℤ, Bool}
+use Rattle.std.proofs.Common.{true, false, IsTrue, ◌⊎◌, inl, inr, List, [], ◌∷◌, length, refl, sym, ap, ◌∙◌, subst}
+use Rattle.std.proofs.Common.{arith}
 use Rattle.std.proofs.lemmas.Bool.{false≢true, leb-true, le-leb, ltb-true, lt-ltb, and_parts, and_from, eqb-true, eqb-false, cases_lt}
 use Rattle.std.proofs.Math.Nat.{pow-le-pow_right}
 use Rattle.asn1_model.specs.Numbers.{digits, complement, octet_width, least_octets, signed_octets, is_within}
@@ -19,7 +21,7 @@ use Rattle.per_codec_laws.proofs.Fronts.{varied_in, varied_out, if_in, if_out}
 use Rattle.per_codec_laws.proofs.Next.{same_fronts}
 use Rattle.per_codec_reading.specs.Fronts.{NoneStands}
 use Rattle.per_codec_reading.proofs.Fronts.{or_free, free_or}
-use Rattle.per_codec_reading_values.specs.Whole.{has_spare, number_octets, offset_form, is_offset, in_128_bits}
+use Rattle.per_codec_reading_values.specs.Integers.{has_spare, number_octets, offset_form, is_offset, in_128_bits}
 
 -- ---- octets as numbers
 are_octets : (os : List ℕ) → list_all is_octet os ≡ true → AreOctets os
@@ -91,10 +93,12 @@ module _ (free : Per.Freedom → Bool) where
   any = free Per.longer_number
 
   -- ---- the octets
-  pub octets_read : (sign al : Bool) (os : List ℕ) (a b : Position) → 0 < length os → (any || not (has_spare sign os)) ≡ true → Front free (Per.counted_octets al os) a b → Front free (number_octets any sign al os) a b
+  pub octets_read : (sign al : Bool) (os : List ℕ) (a b : Position) → 0 < length os → (any || not (has_spare sign os)) ≡ true →
+      Front free (Per.counted_octets al os) a b → Front free (number_octets any sign al os) a b
   octets_read sign al os a b l h f = if_in free (ltb 0 (length os) && (any || not (has_spare sign os))) _ a b (and_from _ _ (lt-ltb 0 (length os) l) h) f
 
-  octets_parts : (sign al : Bool) (os : List ℕ) (a b : Position) → Front free (number_octets any sign al os) a b → (0 < length os) × ((any || not (has_spare sign os)) ≡ true) × Front free (Per.counted_octets al os) a b
+  octets_parts : (sign al : Bool) (os : List ℕ) (a b : Position) → Front free (number_octets any sign al os) a b → (0 < length os) ×
+      ((any || not (has_spare sign os)) ≡ true) × Front free (Per.counted_octets al os) a b
   octets_parts sign al os a b f =
       let i = if_out free (ltb 0 (length os) && (any || not (has_spare sign os))) _ a b f in
       let p = and_parts (ltb 0 (length os)) (any || not (has_spare sign os)) i.0 in
@@ -115,7 +119,8 @@ module _ (free : Per.Freedom → Bool) where
       omega arith
 
   -- octets that the reader does not accept
-  pub spare_octets : (sign al : Bool) (os : List ℕ) (a b : Position) → (any || not (has_spare sign os)) ≡ false → Front free (Per.counted_octets al os) a b → NoneStands free (number_octets any sign al) a
+  pub spare_octets : (sign al : Bool) (os : List ℕ) (a b : Position) → (any || not (has_spare sign os)) ≡ false →
+      Front free (Per.counted_octets al os) a b → NoneStands free (number_octets any sign al) a
   spare_octets sign al os a b h f ps c g =
       let t = octets_parts sign al ps a c g in
       let e : os ≡ ps = (same_fronts free (counted_octets_alike free al os ps) a b c f t.2).0 in
@@ -131,9 +136,11 @@ module _ (free : Per.Freedom → Bool) where
       let i = octets_told true al os a b f in
       let o = octets_of al os a b i.1 in
       let v = signed_number os in
-      let t : (length os ≡ signed_octets v) ⊎ IsTrue any = elim (or_free any (not (is_padded os)) (octets_parts true al os a b f).1) [ inl e ↦ inl (sym (fewest_signed os o i.0 (is_not (is_padded os) e))) | inr e ↦ inr e ] in
+      let t : (length os ≡ signed_octets v) ⊎ IsTrue any = elim (or_free any (not (is_padded os)) (octets_parts true al os a b f).1)
+      [ inl e ↦ inl (sym (fewest_signed os o i.0 (is_not (is_padded os) e))) | inr e ↦ inr e ] in
       varied_in free (λ k. only_if (leb (signed_octets v) k) (Per.counted_octets al (complement k v))) (length os) t a b
-      (if_in free (leb (signed_octets v) (length os)) _ a b (le-leb (signed_octets v) (length os) (least_signed os o i.0)) (subst (λ l. Front free (Per.counted_octets al l) a b) (sym (complement-back os o i.0)) i.1))
+      (if_in free (leb (signed_octets v) (length os)) _ a b (le-leb (signed_octets v) (length os) (least_signed os o i.0))
+      (subst (λ l. Front free (Per.counted_octets al l) a b) (sym (complement-back os o i.0)) i.1))
 
   signed_told : (al : Bool) (v : ℤ) (a b : Position) → Front free (Per.unconstrained al v) a b → (os : List ℕ) × (signed_number os ≡ v) × Front free (number_octets any true al os) a b
   unfolding Per.unconstrained
@@ -146,8 +153,10 @@ module _ (free : Per.Freedom → Bool) where
       let own : (not (is_padded (complement q.0 v)) ≡ true) ⊎ IsTrue any = elim q.1 [ inl e ↦ inl (ap not (ap (λ k. is_padded (complement k v)) e ∙ written-fewest v)) | inr e ↦ inr e ] in
       (complement q.0 v, signed_back q.0 v l, octets_read true al (complement q.0 v) a b (omega arith) (free_or any (not (is_padded (complement q.0 v))) own) i.1)
 
-  pub unconstrained_read : (al : Bool) (v : ℤ) (os : List ℕ) (a b : Position) → v ≡ signed_number os → is_within wide_range (signed_number os) ≡ true → Front free (number_octets any true al os) a b → Front free (in_128_bits (Per.unconstrained al) v) a b
-  unconstrained_read al v os a b e w f = subst (λ z. Front free (in_128_bits (Per.unconstrained al) z) a b) (sym e) (if_in free (is_within wide_range (signed_number os)) _ a b w (signed_read al os a b f))
+  pub unconstrained_read : (al : Bool) (v : ℤ) (os : List ℕ) (a b : Position) → v ≡ signed_number os →
+      is_within wide_range (signed_number os) ≡ true → Front free (number_octets any true al os) a b → Front free (in_128_bits (Per.unconstrained al) v) a b
+  unconstrained_read al v os a b e w f = subst (λ z. Front free (in_128_bits (Per.unconstrained al) z) a b) (sym e)
+      (if_in free (is_within wide_range (signed_number os)) _ a b w (signed_read al os a b f))
 
   -- the same for a number of any size
   pub number_read : (al : Bool) (v : ℤ) (os : List ℕ) (a b : Position) → v ≡ signed_number os → Front free (number_octets any true al os) a b → Front free (Per.unconstrained al v) a b
@@ -162,21 +171,26 @@ module _ (free : Per.Freedom → Bool) where
   pub no_unconstrained : (al : Bool) (a : Position) → NoneStands free (number_octets any true al) a → NoneStands free (in_128_bits (Per.unconstrained al)) a
   no_unconstrained al a n v b f = none_signed al a n v b (if_out free (is_within wide_range v) _ a b f).1
 
-  pub unconstrained_outside : (al : Bool) (os : List ℕ) (a b : Position) → is_within wide_range (signed_number os) ≡ false → Front free (number_octets any true al os) a b → NoneStands free (in_128_bits (Per.unconstrained al)) a
+  pub unconstrained_outside : (al : Bool) (os : List ℕ) (a b : Position) → is_within wide_range (signed_number os) ≡ false →
+      Front free (number_octets any true al os) a b → NoneStands free (in_128_bits (Per.unconstrained al)) a
   unconstrained_outside al os a b w f v c g =
       let i = if_out free (is_within wide_range v) _ a c g in
       false≢true (sym w ∙ ap (is_within wide_range) (sym (signed_same al v os a b c f i.1)) ∙ i.0)
 
   -- ---- without a sign
-  pub offset_read : (al : Bool) (n : ℕ) (os : List ℕ) (a b : Position) → n ≡ unsigned_number os → is_offset (unsigned_number os) ≡ true → Front free (number_octets any false al os) a b → Front free (offset_form al n) a b
+  pub offset_read : (al : Bool) (n : ℕ) (os : List ℕ) (a b : Position) → n ≡ unsigned_number os → is_offset (unsigned_number os) ≡ true →
+      Front free (number_octets any false al os) a b → Front free (offset_form al n) a b
   unfolding Per.semi_constrained
   offset_read al n os a b e w f =
       let i = octets_told false al os a b f in
       let o = octets_of al os a b i.1 in
       let m = unsigned_number os in
-      let t : (length os ≡ least_octets m) ⊎ IsTrue any = elim (or_free any (not (has_spare false os)) (octets_parts false al os a b f).1) [ inl d ↦ inl (shortest_of os o i.0 (is_not (has_spare false os) d)) | inr d ↦ inr d ] in
-      subst (λ z. Front free (offset_form al z) a b) (sym e) (if_in free (is_offset m) _ a b w (varied_in free (λ k. only_if (leb (least_octets m) k) (Per.counted_octets al (digits 256 k m))) (length os) t a b
-      (if_in free (leb (least_octets m) (length os)) _ a b (le-leb (least_octets m) (length os) (least_unsigned os o i.0)) (subst (λ l. Front free (Per.counted_octets al l) a b) (sym (digits-unsigned os o)) i.1))))
+      let t : (length os ≡ least_octets m) ⊎ IsTrue any = elim (or_free any (not (has_spare false os)) (octets_parts false al os a b f).1)
+      [ inl d ↦ inl (shortest_of os o i.0 (is_not (has_spare false os) d)) | inr d ↦ inr d ] in
+      subst (λ z. Front free (offset_form al z) a b) (sym e)
+      (if_in free (is_offset m) _ a b w (varied_in free (λ k. only_if (leb (least_octets m) k) (Per.counted_octets al (digits 256 k m))) (length os) t a b
+      (if_in free (leb (least_octets m) (length os)) _ a b (le-leb (least_octets m) (length os) (least_unsigned os o i.0))
+      (subst (λ l. Front free (Per.counted_octets al l) a b) (sym (digits-unsigned os o)) i.1))))
 
   unsigned_told : (al : Bool) (n : ℕ) (a b : Position) → Front free (Per.semi_constrained al n) a b → (os : List ℕ) × (unsigned_number os ≡ n) × Front free (number_octets any false al os) a b
   unfolding Per.semi_constrained
@@ -186,7 +200,8 @@ module _ (free : Per.Freedom → Bool) where
       let l = leb-true (least_octets n) q.0 i.0 in
       let m = length-digits q.0 n in
       let u = unsigned_back q.0 n (omega arith) in
-      let own : (not (has_spare false (digits 256 q.0 n)) ≡ true) ⊎ IsTrue any = elim q.1 [ inl e ↦ inl (ap not (not_spare (digits 256 q.0 n) (octets-digits q.0 n) (m ∙ e ∙ ap least_octets (sym u)))) | inr e ↦ inr e ] in
+      let own : (not (has_spare false (digits 256 q.0 n)) ≡ true) ⊎ IsTrue any =
+      elim q.1 [ inl e ↦ inl (ap not (not_spare (digits 256 q.0 n) (octets-digits q.0 n) (m ∙ e ∙ ap least_octets (sym u)))) | inr e ↦ inr e ] in
       (digits 256 q.0 n, u, octets_read false al (digits 256 q.0 n) a b (omega arith) (free_or any (not (has_spare false (digits 256 q.0 n))) own) i.1)
 
   pub no_offset : (al : Bool) (a : Position) → NoneStands free (number_octets any false al) a → NoneStands free (offset_form al) a

@@ -17,7 +17,7 @@ use Rattle.per_codec_reading.specs.Units.{Units, counted_units, piece_form, unit
 use Rattle.per_codec_reading.proofs.Loops.{Joins, joins_none, joins_more, joins_last, joins_stop, joins_refused, fragment_shortens}
 use Rattle.per_codec_reading.proofs.LargestFirst.{follows_four}
 use Rattle.per_codec_reading_values.specs.Fields.{HasPiece, HasUnits, NoSkip}
-use Rattle.per_codec_reading_values.proofs.FieldFronts.{octets_of, units_told}
+use Rattle.per_codec_reading_values.proofs.FieldFronts.{octets_of, units_by_length}
 
 -- except if memory runs out, the bits do not begin with what is not found
 pub missed : {X : Type 0} (free : Per.Freedom → Bool) (f : X → Per.BitForm) (a : Position) (e : DecodeError) → Misses free f a e → ¬ (e ≡ OutOfMemory) → NoneStands free f a
@@ -59,7 +59,8 @@ module _ (free : Per.Freedom → Bool) (al : Bool) where
   passed_stop m start here j n = after_four start (joins_stop free al 8 4 m (0, []) j.0 start here j.1 n)
 
   -- a fragment that may not follow
-  pub passed_refused : (m : ℕ) (l : Length) (start here next : Position) → length_may_follow any m l ≡ false → Passed start m here → HasPiece free al l here next → NoneStands free (counted_units al 8) start
+  pub passed_refused : (m : ℕ) (l : Length) (start here next : Position) → length_may_follow any m l ≡ false → Passed start m here →
+      HasPiece free al l here next → NoneStands free (counted_units al 8) start
   passed_refused m l start here next t j f = after_four start (joins_refused free al 8 4 m l f.0 (0, []) j.0 start here next t j.1 f.1)
 
   pub piece_shortens : (m : ℕ) (a b : Position) → HasPiece free al (Fragment m) a b → length b.1 < length a.1
@@ -102,7 +103,8 @@ module _ (free : Per.Freedom → Bool) (al : Bool) where
   pub reaches_first : (all : List Bool) (start : Position) → Reaches all start all start
   reaches_first all start = record { whole = λ b s. s; back = λ b s. s }
 
-  pub reaches_there : (all : List Bool) (v : Bool) (left : List Bool) (start here next : Position) → v ≡ true → Reaches all start (v ∷ left) here → HasUnits free al here next → Reaches all start left next
+  pub reaches_there : (all : List Bool) (v : Bool) (left : List Bool) (start here next : Position) → v ≡ true → Reaches all start (v ∷ left) here →
+      HasUnits free al here next → Reaches all start left next
   reaches_there all false left start here next t r f = cc
   reaches_there all true left start here next t r f = record {
     whole = λ b s. r.whole b (skip_there left here next b f s);
@@ -119,8 +121,9 @@ module _ (free : Per.Freedom → Bool) (al : Bool) where
   pub reaches_end : (all left : List Bool) (start here : Position) → left ≡ [] → Reaches all start left here → Skips al free all start here
   reaches_end all left start here e r = r.whole here (subst (λ l. Skips al free l here here) (sym e) ([], refl, nothing_front free here))
 
-  pub reaches_stop : (all : List Bool) (v : Bool) (left : List Bool) (start here : Position) (e : DecodeError) → v ≡ true → Reaches all start (v ∷ left) here → Misses free (counted_units al 8) here e → NoSkip free al all start e
+  pub reaches_stop : (all : List Bool) (v : Bool) (left : List Bool) (start here : Position) (e : DecodeError) → v ≡ true →
+      Reaches all start (v ∷ left) here → Misses free (counted_units al 8) here e → NoSkip free al all start e
   reaches_stop all false left start here e t r m = cc
   reaches_stop all true left start here e t r m = λ n b s.
       let q = skipped_there left here b (r.back b s) in
-      missed free (counted_units al 8) here e m n (length q.0, Numbers.octet_bits q.0) q.1 (units_told free al q.0 here q.1 q.2)
+      missed free (counted_units al 8) here e m n (length q.0, Numbers.octet_bits q.0) q.1 (units_by_length free al q.0 here q.1 q.2)

@@ -1,5 +1,7 @@
 -- Bits of a presence bitmap that are set (X.691 19.7), and bitmaps that a reader does not accept.
-use Rattle.std.proofs.Common.{◌≡◌, ◌⊎◌, inl, inr, ℕ, zero, suc, ◌↔◌, ◌||◌, Bool, true, false, not, cond, IsTrue, Option, Some, None, List, [], ◌∷◌, ◌++◌, length, replicate, take, drop, map, refl, ap, sym, ◌∙◌, subst}
+use Rattle.std.proofs.Common.{◌≡◌, ◌⊎◌, inl, inr, ℕ, zero, suc, ◌↔◌, ◌||◌, Bool, true, false, not, cond, IsTrue, Option}
+use Rattle.std.proofs.Common.{Some, None, List, [], ◌∷◌, ◌++◌, length, replicate, take, drop, map, refl, ap, sym, ◌∙◌}
+use Rattle.std.proofs.Common.{subst}
 use Rattle.std.proofs.lemmas.Bool.{false≢true}
 use Rattle.std.proofs.lemmas.List.{take-append-drop}
 use Rattle.std.specs.Prelude.{is_some}
@@ -81,17 +83,20 @@ module _ (free : Per.Freedom → Bool) (al : Bool) where
       let P : List Per.BitForm → List Per.BitForm → Type 0 = λ us vs. Alike free (Per.normally_few al us) (Per.normally_few al vs) (bs ≡ cs) in
       subst (λ us. P us (Per.bit_units cs)) (units_of bs) (subst (λ vs. P (map Per.flag (map (λ b. flagged b) bs)) vs) (units_of cs) base)
 
-  pub bitmap_accepted : (m : Bool) (bs : List Bool) (a b : Position) → m ≡ true → (free Per.empty_bitmap || is_any_set bs) ≡ true → Front free (Per.normally_few al (Per.bit_units bs)) a b → HasBitmap free al m bs a b
+  pub bitmap_accepted : (m : Bool) (bs : List Bool) (a b : Position) → m ≡ true → (free Per.empty_bitmap || is_any_set bs) ≡ true →
+      Front free (Per.normally_few al (Per.bit_units bs)) a b → HasBitmap free al m bs a b
   bitmap_accepted true bs a b e t f = (or_free _ _ t, f)
   bitmap_accepted false bs a b e t f = cc
 
-  pub bitmap_refused : (m : Bool) (us : List Bool) (a c : Position) (e : DecodeError) → m ≡ true → (free Per.empty_bitmap || is_any_set us) ≡ false → Front free (Per.normally_few al (Per.bit_units us)) a c → NoBitmap free al m a e
+  pub bitmap_refused : (m : Bool) (us : List Bool) (a c : Position) (e : DecodeError) → m ≡ true → (free Per.empty_bitmap || is_any_set us) ≡ false →
+      Front free (Per.normally_few al (Per.bit_units us)) a c → NoBitmap free al m a e
   bitmap_refused true us a c e h t f = λ i bs b g.
       let q = same_fronts free (bitmaps_alike bs us) a b c g.1 f in
       let k : (is_any_set us ≡ true) ⊎ IsTrue (free Per.empty_bitmap) = elim g.0 [ inl x ↦ inl (ap is_any_set (sym q.0) ∙ x) | inr x ↦ inr x ] in
       false≢true (sym t ∙ free_or _ _ k)
   bitmap_refused false us a c e h t f = cc
 
-  pub bitmap_missed : (m : Bool) (a : Position) (e : DecodeError) → m ≡ true → (¬ (e ≡ OutOfMemory) → (bs : List Bool) (b : Position) → Front free (Per.normally_few al (Per.bit_units bs)) a b → ⊥) → NoBitmap free al m a e
+  pub bitmap_missed : (m : Bool) (a : Position) (e : DecodeError) → m ≡ true →
+      (¬ (e ≡ OutOfMemory) → (bs : List Bool) (b : Position) → Front free (Per.normally_few al (Per.bit_units bs)) a b → ⊥) → NoBitmap free al m a e
   bitmap_missed true a e h n = λ i bs b g. n i bs b g.1
   bitmap_missed false a e h n = cc

@@ -13,9 +13,9 @@ use Rattle.per_codec_laws.proofs.Next.{same_fronts}
 use Rattle.per_codec_reading.specs.Fronts.{NoneStands}
 use Rattle.per_codec_reading.specs.Lengths.{one_bit, number_within}
 use Rattle.per_codec_reading.proofs.Fronts.{or_free, free_or, exactly_in, exactly_out, leads_join}
-use Rattle.per_codec_reading_values.specs.Whole.{offset_form, is_offset}
+use Rattle.per_codec_reading_values.specs.Integers.{offset_form, is_offset}
 use Rattle.per_codec_reading.proofs.RunFronts.{leads_one}
-use Rattle.per_codec_reading_values.specs.Places.{small_form, added_form}
+use Rattle.per_codec_reading_values.specs.Indices.{small_form, added_form}
 
 small_fits : (n : ℕ) → n < 64 → is_offset n ≡ true
 small_fits n l = let p : 2 ^ 6 ≤ 2 ^ 128 = pow-le-pow_right {n = 2} (omega arith) {i = 6} {j = 128} (omega arith) in lt-ltb n (2 ^ 128) (omega (arith, p, l))
@@ -61,10 +61,15 @@ module _ (free : Per.Freedom → Bool) where
         let l = ltb-true n 64 i.0 in
         let h = exactly_out free (false ∷ binary 6 n) a b i.1 in
         let k = h.1 in
-        let m : Position = (a.0 + 1, binary 6 n ++ b.1) in
-        (m, exactly_in free (false ∷ []) a m (h.0, refl), if_in free (leb n 63 && ltb n (2 ^ 6)) (exactly (binary 6 n)) m b (and_from _ _ (le-leb n 63 (omega (arith, l))) (lt-ltb n 64 l)) (exactly_in free (binary 6 n) m b (refl, omega (arith, k))))
+        let m : Position = (a.0 + 1, binary 6 n ++ b.1) in (
+          m,
+          exactly_in free (false ∷ []) a m (h.0, refl),
+          if_in free (leb n 63 && ltb n (2 ^ 6)) (exactly (binary 6 n)) m b
+              (and_from _ _ (le-leb n 63 (omega (arith, l))) (lt-ltb n 64 l)) (exactly_in free (binary 6 n) m b (refl, omega (arith, k))),
+        )
 
-    small_out : (n : ℕ) (a b : Position) → Front free (small_form al n) a b → (long : Bool) × (m : Position) × Front free (one_bit long) a m × Behind long n m b × ((long ≡ leb 64 n) ⊎ IsTrue (free Per.long_small_number))
+    small_out : (n : ℕ) (a b : Position) → Front free (small_form al n) a b → (long : Bool) × (m : Position) × Front free (one_bit long) a m ×
+        Behind long n m b × ((long ≡ leb 64 n) ⊎ IsTrue (free Per.long_small_number))
     unfolding Per.normally_small
     small_out n a b f =
         let i = if_out free (is_offset n) (Per.normally_small al n) a b f in

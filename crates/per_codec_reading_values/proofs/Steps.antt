@@ -1,5 +1,7 @@
 -- One more character, from its code.
-use Rattle.std.proofs.Common.{◌≡◌, ℕ, zero, suc, ◌+◌, ◌-◌, ◌*◌, ◌^◌, ◌<◌, ◌≤◌, Bool, true, List, [], ◌∷◌, ◌++◌, length, take, drop, Option, Some, None, refl, ap, subst, sym, ◌∙◌, append_assoc, length-append, length-drop, arith}
+use Rattle.std.proofs.Common.{◌≡◌, ℕ, zero, suc, ◌+◌, ◌-◌, ◌*◌, ◌^◌, ◌<◌, ◌≤◌, Bool, true, List, [], ◌∷◌, ◌++◌, length}
+use Rattle.std.proofs.Common.{take, drop, Option, Some, None, refl, ap, subst, sym, ◌∙◌, append_assoc, length-append}
+use Rattle.std.proofs.Common.{length-drop, arith}
 use Rattle.std.specs.Prelude.{flat_map, is_some, unwrap_or}
 use Rattle.std.proofs.lemmas.Bool.{and_parts, and_from}
 use Rattle.asn1_model.specs.Numbers.{binary, octet_bits}
@@ -8,7 +10,7 @@ use Rattle.std.specs.List.{list_all}
 use Rattle.asn1_laws_fronts.proofs.PerNumbers.{binary_equal, length-binary}
 use Rattle.asn1_values_alphabets.specs.Permitted.{permits}
 use Rattle.per_codec_alphabets.specs.Codes.{Coded, code_of, has_code, text_of}
-use Rattle.per_codec_reading_values.specs.Spelled.{Spells, Stuck, IsFitting}
+use Rattle.per_codec_reading_values.specs.CharacterCodes.{Spells, Stuck, IsFitting}
 
 nothing_behind : (l : List Bool) → l ++ [] ≡ l
 nothing_behind [] = refl
@@ -28,7 +30,8 @@ split_bits [] (suc n) = refl
 split_bits (b ∷ w) (suc n) = ap (λ l. b ∷ l) (split_bits w n)
 
 -- The characters so far, and one more.
-pub one_spelled : (k : StringKind) (a : Coded) (done now : List ℕ) (c n : ℕ) (w rest left : List Bool) → Spells k a done w → now ≡ done ++ c ∷ [] → permits k c ≡ true → code_of a c ≡ Some n → binary a.code_bits n ≡ take a.code_bits rest → Spells k a now (w ++ take a.code_bits rest)
+pub one_spelled : (k : StringKind) (a : Coded) (done now : List ℕ) (c n : ℕ) (w rest left : List Bool) → Spells k a done w → now ≡ done ++ c ∷ [] →
+    permits k c ≡ true → code_of a c ≡ Some n → binary a.code_bits n ≡ take a.code_bits rest → Spells k a now (w ++ take a.code_bits rest)
 one_spelled k a done now c n w rest left s e p f t =
     let b : text_of a c ≡ take a.code_bits rest = ap (λ o. binary a.code_bits (unwrap_or o 0)) f ∙ t in
     rw e (record {
@@ -53,7 +56,8 @@ record First (k : StringKind) (a : Coded) (o : Option ℕ) (c : ℕ) (cs : List 
   permitted : permits k c ≡ true
   others : Spells k a cs (drop a.code_bits w)
 
-module _ (k : StringKind) (a : Coded) (fit : IsFitting a) (o : Option ℕ) (number : ℕ) (w : List Bool) (digits : binary a.code_bits number ≡ take a.code_bits w) (below : number < 2 ^ a.code_bits) (alone : (c : ℕ) → code_of a c ≡ Some number → permits k c ≡ true → o ≡ Some c) where
+module _ (k : StringKind) (a : Coded) (fit : IsFitting a) (o : Option ℕ) (number : ℕ) (w : List Bool)
+    (digits : binary a.code_bits number ≡ take a.code_bits w) (below : number < 2 ^ a.code_bits) (alone : (c : ℕ) → code_of a c ≡ Some number → permits k c ≡ true → o ≡ Some c) where
   first : (c : ℕ) (cs : List ℕ) → Spells k a (c ∷ cs) w → First k a o c cs w
   first c cs s =
       let p = and_parts _ _ s.permitted in
@@ -105,14 +109,17 @@ begins k a count done codes e w =
     less : (n : ℕ) → n ≡ n - 0
     less n = omega arith
 
-module _ (k : StringKind) (a : Coded) (count place : ℕ) (done : List ℕ) (rest codes : List Bool) (b : Begun k a count place done rest codes) (l : place < count) (o : Option ℕ) (number : ℕ) (digits : binary a.code_bits number ≡ take a.code_bits rest) (below : number < 2 ^ a.code_bits) (alone : (c : ℕ) → code_of a c ≡ Some number → permits k c ≡ true → o ≡ Some c) where
+module _ (k : StringKind) (a : Coded) (count place : ℕ) (done : List ℕ) (rest codes : List Bool) (b : Begun k a count place done rest codes)
+    (l : place < count) (o : Option ℕ) (number : ℕ) (digits : binary a.code_bits number ≡ take a.code_bits rest) (below : number < 2 ^ a.code_bits)
+    (alone : (c : ℕ) → code_of a c ≡ Some number → permits k c ≡ true → o ≡ Some c) where
   one_left : count - place ≡ suc (count - (place + 1))
   one_left = omega arith
 
   pub ends_without : o ≡ None → IsFitting a → Stuck k a count codes
   ends_without e f = b.stuck f (subst (λ n. Stuck k a n rest) (sym one_left) (no_character k a f o number rest digits below alone (count - (place + 1)) e))
 
-  pub goes_on : (d : ℕ) (now : List ℕ) (left : List Bool) → now ≡ done ++ d ∷ [] → permits k d ≡ true → code_of a d ≡ Some number → left ≡ drop a.code_bits rest → Begun k a count (place + 1) now left codes
+  pub goes_on : (d : ℕ) (now : List ℕ) (left : List Bool) → now ≡ done ++ d ∷ [] → permits k d ≡ true → code_of a d ≡ Some number →
+      left ≡ drop a.code_bits rest → Begun k a count (place + 1) now left codes
   goes_on d now left e p c r =
       let m = b.many in
       rw r (record {
@@ -135,7 +142,8 @@ enough k a count place done rest codes b l =
     at_least : (m n w : ℕ) → m ≡ suc n * w → w ≤ m
     at_least m n w e = omega arith
 
-pub all_read : (k : StringKind) (a : Coded) (count place : ℕ) (done : List ℕ) (rest codes : List Bool) → Begun k a count place done rest codes → count ≤ place → place ≤ count → (length done ≡ count) × Spells k a done codes
+pub all_read : (k : StringKind) (a : Coded) (count place : ℕ) (done : List ℕ) (rest codes : List Bool) → Begun k a count place done rest codes →
+    count ≤ place → place ≤ count → (length done ≡ count) × Spells k a done codes
 all_read k a count place done rest codes b l h =
     let m = b.many in
     let z : count - place ≡ 0 = omega arith in

@@ -2,7 +2,9 @@
 use Rattle.asn1_model.specs.Schema.{wide_range}
 use Rattle.std.specs.Prelude.{FitsSigned, unsigned_abs, ◌+ℤ◌, ◌-ℤ◌, ◌<ℤ◌, ◌≤ℤ◌}
 use Rattle.std.specs.Int.{w128}
-use Rattle.std.proofs.Common.{◌≡◌, ℕ, ◌-◌, ◌^◌, ◌<◌, leb, not, ℤ, pos, negsuc, Bool, true, false, cond, ◌&&◌, ◌⊎◌, IsTrue, inl, inr, Option, Some, None, Result, Ok, Err, IfOk, OnOk, IfErr, OnErr, [], ◌∷◌, refl, sym, ap, ◌∙◌, subst, arith}
+use Rattle.std.proofs.Common.{◌≡◌, ℕ, ◌-◌, ◌^◌, ◌<◌, leb, not, ℤ, pos, negsuc, Bool, true, false, cond, ◌&&◌, ◌⊎◌}
+use Rattle.std.proofs.Common.{IsTrue, inl, inr, Option, Some, None, Result, Ok, Err, IfOk, OnOk, IfErr, OnErr, [], ◌∷◌}
+use Rattle.std.proofs.Common.{refl, sym, ap, ◌∙◌, subst, arith}
 use Rattle.std.proofs.lemmas.Int.{ints}
 use Rattle.std.proofs.lemmas.Bool.{false≢true, leb-true, lt-ltb, and_parts, and_from}
 use Rattle.asn1_model.specs.Numbers.{above, is_at_most, is_within}
@@ -23,8 +25,8 @@ use Rattle.per_codec_laws.proofs.Next.{same_fronts}
 use Rattle.per_codec_reading.specs.Fronts.{NoneStands, IsFresh, Misses}
 use Rattle.per_codec_reading.specs.Lengths.{one_bit}
 use Rattle.per_codec_reading.proofs.Fronts.{or_free, free_or, none_misses}
-use Rattle.per_codec_reading.specs.Sizes.{may_be_outside}
-use Rattle.per_codec_reading_values.specs.Whole.{offset_form, is_offset, in_128_bits, behind_extension_bit, under_constraint}
+use Rattle.per_codec_reading.specs.Headings.{may_be_outside}
+use Rattle.per_codec_reading_values.specs.Integers.{offset_form, is_offset, in_128_bits, behind_extension_bit, under_constraint}
 use Rattle.std.specs.Option.{option_map_or}
 
 -- ---- 128 bits
@@ -40,8 +42,11 @@ at_most_told a b h = told (b -ℤ a) refl h
     told (negsuc n) e h = cc
 
 pub wide_told : (v : ℤ) → is_within wide_range v ≡ true → FitsSigned w128 v
-wide_told (pos n) h = let l : pos n ≤ℤ pos (2 ^ 127 - 1) = at_most_told (pos n) (pos (2 ^ 127 - 1)) (and_parts (is_at_most (negsuc (2 ^ 127 - 1)) (pos n)) (is_at_most (pos n) (pos (2 ^ 127 - 1))) h).1 in record { sfits = omega (arith, ints, l) }
-wide_told (negsuc n) h = let l : negsuc (2 ^ 127 - 1) ≤ℤ negsuc n = at_most_told (negsuc (2 ^ 127 - 1)) (negsuc n) (and_parts (is_at_most (negsuc (2 ^ 127 - 1)) (negsuc n)) (is_at_most (negsuc n) (pos (2 ^ 127 - 1))) h).0 in record { sfits = omega (arith, ints, l) }
+wide_told (pos n) h = let l : pos n ≤ℤ pos (2 ^ 127 - 1) = at_most_told (pos n) (pos (2 ^ 127 - 1))
+    (and_parts (is_at_most (negsuc (2 ^ 127 - 1)) (pos n)) (is_at_most (pos n) (pos (2 ^ 127 - 1))) h).1 in record { sfits = omega (arith, ints, l) }
+wide_told (negsuc n) h = let l : negsuc (2 ^ 127 - 1) ≤ℤ negsuc n =
+    at_most_told (negsuc (2 ^ 127 - 1)) (negsuc n) (and_parts (is_at_most (negsuc (2 ^ 127 - 1)) (negsuc n))
+    (is_at_most (negsuc n) (pos (2 ^ 127 - 1))) h).0 in record { sfits = omega (arith, ints, l) }
 
 is_not : (b : Bool) → not b ≡ true → b ≡ false
 is_not true e = absurd (false≢true e)
@@ -75,11 +80,14 @@ module _ (free : Per.Freedom → Bool) where
   shifted_out x low v a b f = let g = given_out free (above low v) x a b f in (g.0, above_told low v g.0 g.1, g.2)
 
   -- ---- between two bounds
-  pub between_read : (al : Bool) (low high v : ℤ) (span d : ℕ) (a b : Position) → high ≡ low +ℤ pos span → v ≡ low +ℤ pos d → is_within wide_range v ≡ true → Front free (Per.constrained al span d) a b → Front free (in_128_bits (Per.whole_number al (Some low) (Some high)) v) a b
+  pub between_read : (al : Bool) (low high v : ℤ) (span d : ℕ) (a b : Position) → high ≡ low +ℤ pos span → v ≡ low +ℤ pos d →
+      is_within wide_range v ≡ true → Front free (Per.constrained al span d) a b → Front free (in_128_bits (Per.whole_number al (Some low) (Some high)) v) a b
   unfolding Per.whole_number
-  between_read al low high v span d a b e f w g = if_in free (is_within wide_range v) _ a b w (given_in free (above low high) (λ s. given (above low v) (λ d. Per.constrained al s d)) span (above_is low high span e) a b (shifted_in (λ d. Per.constrained al span d) low v d a b f g))
+  between_read al low high v span d a b e f w g = if_in free (is_within wide_range v) _ a b w
+      (given_in free (above low high) (λ s. given (above low v) (λ d. Per.constrained al s d)) span (above_is low high span e) a b (shifted_in (λ d. Per.constrained al span d) low v d a b f g))
 
-  between_told : (al : Bool) (low high v : ℤ) (a b : Position) → Front free (Per.whole_number al (Some low) (Some high) v) a b → (span : ℕ) × (high ≡ low +ℤ pos span) × (d : ℕ) × (v ≡ low +ℤ pos d) × Front free (Per.constrained al span d) a b
+  between_told : (al : Bool) (low high v : ℤ) (a b : Position) → Front free (Per.whole_number al (Some low) (Some high) v) a b → (span : ℕ) ×
+      (high ≡ low +ℤ pos span) × (d : ℕ) × (v ≡ low +ℤ pos d) × Front free (Per.constrained al span d) a b
   unfolding Per.whole_number
   between_told al low high v a b f =
       let g = given_out free (above low high) (λ s. given (above low v) (λ d. Per.constrained al s d)) a b f in
@@ -92,14 +100,16 @@ module _ (free : Per.Freedom → Bool) where
       let e = t.1 in
       omega (arith, ints, l, e)
 
-  pub between_missed : (al : Bool) (low high : ℤ) (span : ℕ) (a : Position) → high ≡ low +ℤ pos span → NoneStands free (Per.constrained al span) a → NoneStands free (in_128_bits (Per.whole_number al (Some low) (Some high))) a
+  pub between_missed : (al : Bool) (low high : ℤ) (span : ℕ) (a : Position) → high ≡ low +ℤ pos span → NoneStands free (Per.constrained al span) a →
+      NoneStands free (in_128_bits (Per.whole_number al (Some low) (Some high))) a
   between_missed al low high span a e n v b f =
       let t = between_told al low high v a b (if_out free (is_within wide_range v) _ a b f).1 in
       let g = t.1 in
       let s : t.0 ≡ span = omega (arith, ints, e, g) in
       n t.2 b (subst (λ x. Front free (Per.constrained al x t.2) a b) s t.4)
 
-  pub between_outside : (al : Bool) (low high : ℤ) (span d : ℕ) (a c : Position) → high ≡ low +ℤ pos span → is_within wide_range (low +ℤ pos d) ≡ false → Front free (Per.constrained al span d) a c → NoneStands free (in_128_bits (Per.whole_number al (Some low) (Some high))) a
+  pub between_outside : (al : Bool) (low high : ℤ) (span d : ℕ) (a c : Position) → high ≡ low +ℤ pos span →
+      is_within wide_range (low +ℤ pos d) ≡ false → Front free (Per.constrained al span d) a c → NoneStands free (in_128_bits (Per.whole_number al (Some low) (Some high))) a
   between_outside al low high span d a c e w h v b f =
       let i = if_out free (is_within wide_range v) _ a b f in
       let t = between_told al low high v a b i.1 in
@@ -109,18 +119,22 @@ module _ (free : Per.Freedom → Bool) where
       let r : v ≡ low +ℤ pos d = t.3 ∙ ap (λ x. low +ℤ pos x) q in
       false≢true (sym w ∙ ap (is_within wide_range) (sym r) ∙ i.0)
 
-  pub between_answer : (al : Bool) (r : Result ℤ DecodeError) (low low' high : ℤ) (span d : ℕ) (a b : Position) → low' ≡ low → high ≡ low +ℤ pos span → IfOk r (λ v. v ≡ low' +ℤ pos d) → OnOk r (is_within wide_range (low' +ℤ pos d) ≡ true) → Front free (Per.constrained al span d) a b
+  pub between_answer : (al : Bool) (r : Result ℤ DecodeError) (low low' high : ℤ) (span d : ℕ) (a b : Position) → low' ≡ low →
+      high ≡ low +ℤ pos span → IfOk r (λ v. v ≡ low' +ℤ pos d) → OnOk r (is_within wide_range (low' +ℤ pos d) ≡ true) → Front free (Per.constrained al span d) a b
       → IfOk r (λ v. Front free (in_128_bits (Per.whole_number al (Some low) (Some high)) v) a b)
   between_answer al (Ok v) low low' high span d a b q e f w g = between_read al low high v span d a b e (f ∙ ap (λ z. z +ℤ pos d) q) (ap (is_within wide_range) f ∙ w) g
   between_answer al (Err x) low low' high span d a b q e f w g = tt
 
-  pub between_refused : (al : Bool) (r : Result ℤ DecodeError) (low low' high : ℤ) (span d : ℕ) (a b : Position) → low' ≡ low → high ≡ low +ℤ pos span → OnErr r (is_within wide_range (low' +ℤ pos d) ≡ false) → IfErr r IsFresh → Front free (Per.constrained al span d) a b
+  pub between_refused : (al : Bool) (r : Result ℤ DecodeError) (low low' high : ℤ) (span d : ℕ) (a b : Position) → low' ≡ low →
+      high ≡ low +ℤ pos span → OnErr r (is_within wide_range (low' +ℤ pos d) ≡ false) → IfErr r IsFresh → Front free (Per.constrained al span d) a b
       → IfErr r (Misses free (in_128_bits (Per.whole_number al (Some low) (Some high))) a)
   between_refused al (Ok v) low low' high span d a b q e w h g = tt
-  between_refused al (Err x) low low' high span d a b q e w h g = none_misses free (in_128_bits (Per.whole_number al (Some low) (Some high))) a x h (between_outside al low high span d a b e (ap (λ z. is_within wide_range (z +ℤ pos d)) (sym q) ∙ w) g)
+  between_refused al (Err x) low low' high span d a b q e w h g =
+      none_misses free (in_128_bits (Per.whole_number al (Some low) (Some high))) a x h (between_outside al low high span d a b e (ap (λ z. is_within wide_range (z +ℤ pos d)) (sym q) ∙ w) g)
 
   -- ---- from a lower bound on
-  pub from_read : (al : Bool) (low v : ℤ) (d : ℕ) (a b : Position) → v ≡ low +ℤ pos d → is_within wide_range v ≡ true → Front free (offset_form al d) a b → Front free (in_128_bits (Per.whole_number al (Some low) None) v) a b
+  pub from_read : (al : Bool) (low v : ℤ) (d : ℕ) (a b : Position) → v ≡ low +ℤ pos d → is_within wide_range v ≡ true →
+      Front free (offset_form al d) a b → Front free (in_128_bits (Per.whole_number al (Some low) None) v) a b
   unfolding Per.whole_number
   from_read al low v d a b e w f = if_in free (is_within wide_range v) _ a b w (shifted_in (λ d. Per.semi_constrained al d) low v d a b e (if_out free (is_offset d) _ a b f).1)
 
@@ -138,7 +152,8 @@ module _ (free : Per.Freedom → Bool) where
       let s : t.0 < 2 ^ 128 = omega (arith, ints, e, l, u) in
       n t.0 b (if_in free (is_offset t.0) _ a b (lt-ltb t.0 (2 ^ 128) s) t.2)
 
-  pub from_outside : (al : Bool) (low : ℤ) (d : ℕ) (a c : Position) → is_within wide_range (low +ℤ pos d) ≡ false → Front free (offset_form al d) a c → NoneStands free (in_128_bits (Per.whole_number al (Some low) None)) a
+  pub from_outside : (al : Bool) (low : ℤ) (d : ℕ) (a c : Position) → is_within wide_range (low +ℤ pos d) ≡ false →
+      Front free (offset_form al d) a c → NoneStands free (in_128_bits (Per.whole_number al (Some low) None)) a
   from_outside al low d a c w h v b f =
       let i = if_out free (is_within wide_range v) _ a b f in
       let t = from_told al low v a b i.1 in
@@ -146,13 +161,16 @@ module _ (free : Per.Freedom → Bool) where
       let r : v ≡ low +ℤ pos d = t.1 ∙ ap (λ x. low +ℤ pos x) q in
       false≢true (sym w ∙ ap (is_within wide_range) (sym r) ∙ i.0)
 
-  pub from_answer : (al : Bool) (r : Result ℤ DecodeError) (low low' : ℤ) (d : ℕ) (a b : Position) → low' ≡ low → IfOk r (λ v. v ≡ low' +ℤ pos d) → OnOk r (is_within wide_range (low' +ℤ pos d) ≡ true) → Front free (offset_form al d) a b → IfOk r (λ v. Front free (in_128_bits (Per.whole_number al (Some low) None) v) a b)
+  pub from_answer : (al : Bool) (r : Result ℤ DecodeError) (low low' : ℤ) (d : ℕ) (a b : Position) → low' ≡ low → IfOk r (λ v. v ≡ low' +ℤ pos d) →
+      OnOk r (is_within wide_range (low' +ℤ pos d) ≡ true) → Front free (offset_form al d) a b → IfOk r (λ v. Front free (in_128_bits (Per.whole_number al (Some low) None) v) a b)
   from_answer al (Ok v) low low' d a b q f w g = from_read al low v d a b (f ∙ ap (λ z. z +ℤ pos d) q) (ap (is_within wide_range) f ∙ w) g
   from_answer al (Err x) low low' d a b q f w g = tt
 
-  pub from_refused : (al : Bool) (r : Result ℤ DecodeError) (low low' : ℤ) (d : ℕ) (a b : Position) → low' ≡ low → OnErr r (is_within wide_range (low' +ℤ pos d) ≡ false) → IfErr r IsFresh → Front free (offset_form al d) a b → IfErr r (Misses free (in_128_bits (Per.whole_number al (Some low) None)) a)
+  pub from_refused : (al : Bool) (r : Result ℤ DecodeError) (low low' : ℤ) (d : ℕ) (a b : Position) → low' ≡ low →
+      OnErr r (is_within wide_range (low' +ℤ pos d) ≡ false) → IfErr r IsFresh → Front free (offset_form al d) a b → IfErr r (Misses free (in_128_bits (Per.whole_number al (Some low) None)) a)
   from_refused al (Ok v) low low' d a b q w h g = tt
-  from_refused al (Err x) low low' d a b q w h g = none_misses free (in_128_bits (Per.whole_number al (Some low) None)) a x h (from_outside al low d a b (ap (λ z. is_within wide_range (z +ℤ pos d)) (sym q) ∙ w) g)
+  from_refused al (Err x) low low' d a b q w h g = none_misses free (in_128_bits (Per.whole_number al (Some low) None)) a x h
+      (from_outside al low d a b (ap (λ z. is_within wide_range (z +ℤ pos d)) (sym q) ∙ w) g)
 
   -- ---- up to an upper bound
   pub up_to_read : (al : Bool) (high v : ℤ) (a b : Position) → v ≤ℤ high → Front free (in_128_bits (Per.unconstrained al) v) a b → Front free (in_128_bits (Per.whole_number al None (Some high)) v) a b
@@ -161,7 +179,8 @@ module _ (free : Per.Freedom → Bool) where
       let i = if_out free (is_within wide_range v) _ a b f in
       if_in free (is_within wide_range v) _ a b i.0 (if_in free (is_at_most v high) _ a b (at_most v high l) i.1)
 
-  up_to_told : (al : Bool) (high v : ℤ) (a b : Position) → Front free (in_128_bits (Per.whole_number al None (Some high)) v) a b → (is_at_most v high ≡ true) × Front free (in_128_bits (Per.unconstrained al) v) a b
+  up_to_told : (al : Bool) (high v : ℤ) (a b : Position) → Front free (in_128_bits (Per.whole_number al None (Some high)) v) a b →
+      (is_at_most v high ≡ true) × Front free (in_128_bits (Per.unconstrained al) v) a b
   unfolding Per.whole_number
   up_to_told al high v a b f =
       let i = if_out free (is_within wide_range v) _ a b f in
@@ -174,7 +193,8 @@ module _ (free : Per.Freedom → Bool) where
   wide_alike : (al : Bool) (v w : ℤ) (a b c : Position) → Front free (in_128_bits (Per.unconstrained al) v) a b → Front free (in_128_bits (Per.unconstrained al) w) a c → v ≡ w
   wide_alike al v w a b c f g = (same_fronts free (unconstrained_alike free al v w) a b c (if_out free (is_within wide_range v) _ a b f).1 (if_out free (is_within wide_range w) _ a c g).1).0
 
-  pub up_to_above : (al : Bool) (high v : ℤ) (a c : Position) → high <ℤ v → Front free (in_128_bits (Per.unconstrained al) v) a c → NoneStands free (in_128_bits (Per.whole_number al None (Some high))) a
+  pub up_to_above : (al : Bool) (high v : ℤ) (a c : Position) → high <ℤ v → Front free (in_128_bits (Per.unconstrained al) v) a c →
+      NoneStands free (in_128_bits (Per.whole_number al None (Some high))) a
   up_to_above al high v a c l h w b f =
       let t = up_to_told al high w a b f in
       let e = wide_alike al w v a b c t.1 h in
@@ -193,7 +213,8 @@ module _ (free : Per.Freedom → Bool) where
   unbounded_missed al a n v b f = n v b f
 
   -- ---- by bounds, a number is within them
-  whole_within : (al : Bool) (low high : Option ℤ) (v : ℤ) (a b : Position) → Front free (Per.whole_number al low high v) a b → ((option_map_or (λ x. is_at_most x v) low true) && (option_map_or (λ x. is_at_most v x) high true)) ≡ true
+  whole_within : (al : Bool) (low high : Option ℤ) (v : ℤ) (a b : Position) → Front free (Per.whole_number al low high v) a b →
+      ((option_map_or (λ x. is_at_most x v) low true) && (option_map_or (λ x. is_at_most v x) high true)) ≡ true
   unfolding Per.whole_number Per.constrained Per.constrained_in
   whole_within al (Some low) (Some high) v a b f =
       let t = between_told al low high v a b f in
@@ -233,7 +254,8 @@ module _ (free : Per.Freedom → Bool) where
     abbrev by_extension_bit : Bool → Per.BitForm
     by_extension_bit out = cond out (both (exactly (true ∷ [])) (Per.unconstrained al v)) (only_if (is_within (range_of b) v) (both (exactly (false ∷ [])) root))
 
-    extensible_in : (m out : Bool) (a mid c : Position) → m ≡ true → may_be_outside (free Per.root_told_outside) out (is_within (range_of b) v) ≡ true → Front free (one_bit out) a mid → Front free (behind out) mid c → Front free (extensible_form m) a c
+    extensible_in : (m out : Bool) (a mid c : Position) → m ≡ true → may_be_outside (free Per.root_told_outside) out (is_within (range_of b) v)
+        ≡ true → Front free (one_bit out) a mid → Front free (behind out) mid c → Front free (extensible_form m) a c
     unfolding Per.with_extension_bit
     extensible_in true true a mid c e t f g = varied_in free by_extension_bit true (elim (or_free _ _ t) [ inl z ↦ inl (sym z) | inr z ↦ inr z ]) a c (join free _ _ a mid c f g)
     extensible_in true false a mid c e t f g =
@@ -255,7 +277,8 @@ module _ (free : Per.Freedom → Bool) where
     extensible_out false out a mid c e f g = absurd (false≢true e)
 
     -- the extension bit of a number of the root
-    extension_bit_told : (m : Bool) (a mid c : Position) → m ≡ true → Front free (one_bit true) a mid → Front free (extensible_form m) a c → (is_within (range_of b) v ≡ false) ⊎ IsTrue (free Per.root_told_outside)
+    extension_bit_told : (m : Bool) (a mid c : Position) → m ≡ true → Front free (one_bit true) a mid → Front free (extensible_form m) a c →
+        (is_within (range_of b) v ≡ false) ⊎ IsTrue (free Per.root_told_outside)
     unfolding Per.with_extension_bit
     extension_bit_told true a mid c e f g =
         let q = varied_out free by_extension_bit a c g in
@@ -275,35 +298,43 @@ module _ (free : Per.Freedom → Bool) where
   abbrev Constrained : Type 0
   Constrained = Extensible Constraint.Value
 
-  pub inextensible_read : (al : Bool) (c : Constrained) (v : ℤ) (a b : Position) → has_additions c ≡ false → Front free (in_128_bits (Per.whole_number al (lower c.constraint.value) (upper c.constraint.value)) v) a b → Front free (in_128_bits (under_constraint al c) v) a b
+  pub inextensible_read : (al : Bool) (c : Constrained) (v : ℤ) (a b : Position) → has_additions c ≡ false →
+      Front free (in_128_bits (Per.whole_number al (lower c.constraint.value) (upper c.constraint.value)) v) a b → Front free (in_128_bits (under_constraint al c) v) a b
   inextensible_read al c v a b e f =
       let i = if_out free (is_within wide_range v) _ a b f in
       if_in free (is_within wide_range v) _ a b i.0 (plain_in al c.constraint.value v (has_additions c) a b e i.1)
 
-  pub inextensible_missed : (al : Bool) (c : Constrained) (a : Position) → has_additions c ≡ false → NoneStands free (in_128_bits (Per.whole_number al (lower c.constraint.value) (upper c.constraint.value))) a → NoneStands free (in_128_bits (under_constraint al c)) a
+  pub inextensible_missed : (al : Bool) (c : Constrained) (a : Position) → has_additions c ≡ false →
+      NoneStands free (in_128_bits (Per.whole_number al (lower c.constraint.value) (upper c.constraint.value))) a → NoneStands free (in_128_bits (under_constraint al c)) a
   inextensible_missed al c a e n v b f =
       let i = if_out free (is_within wide_range v) _ a b f in
       n v b (if_in free (is_within wide_range v) _ a b i.0 (plain_out al c.constraint.value v (has_additions c) a b e i.1))
 
-  pub extensible_read : (al : Bool) (c : Constrained) (out : Bool) (v : ℤ) (a mid b : Position) → has_additions c ≡ true → may_be_outside (free Per.root_told_outside) out (is_within (range_of c.constraint.value) v) ≡ true → Front free (one_bit out) a mid → Front free (in_128_bits (behind_extension_bit al out c.constraint.value) v) mid b → Front free (in_128_bits (under_constraint al c) v) a b
+  pub extensible_read : (al : Bool) (c : Constrained) (out : Bool) (v : ℤ) (a mid b : Position) → has_additions c ≡ true →
+      may_be_outside (free Per.root_told_outside) out (is_within (range_of c.constraint.value) v) ≡ true → Front free (one_bit out) a mid →
+      Front free (in_128_bits (behind_extension_bit al out c.constraint.value) v) mid b → Front free (in_128_bits (under_constraint al c) v) a b
   extensible_read al c out v a mid b e t f g =
       let i = if_out free (is_within wide_range v) _ mid b g in
       if_in free (is_within wide_range v) _ a b i.0 (extensible_in al c.constraint.value v (has_additions c) out a mid b e t f i.1)
 
-  pub extensible_missed : (al : Bool) (c : Constrained) (out : Bool) (a mid : Position) → has_additions c ≡ true → Front free (one_bit out) a mid → NoneStands free (in_128_bits (behind_extension_bit al out c.constraint.value)) mid → NoneStands free (in_128_bits (under_constraint al c)) a
+  pub extensible_missed : (al : Bool) (c : Constrained) (out : Bool) (a mid : Position) → has_additions c ≡ true → Front free (one_bit out) a mid →
+      NoneStands free (in_128_bits (behind_extension_bit al out c.constraint.value)) mid → NoneStands free (in_128_bits (under_constraint al c)) a
   extensible_missed al c out a mid e f n v b g =
       let i = if_out free (is_within wide_range v) _ a b g in
       n v b (if_in free (is_within wide_range v) _ mid b i.0 (extensible_out al c.constraint.value v (has_additions c) out a mid b e f i.1))
 
   -- an extension bit that the reader does not accept
-  pub extensible_refused : (al : Bool) (c : Constrained) (out : Bool) (v : ℤ) (a mid b : Position) → may_be_outside (free Per.root_told_outside) out (is_within (range_of c.constraint.value) v) ≡ false → has_additions c ≡ true → Front free (one_bit out) a mid → Front free (in_128_bits (behind_extension_bit al out c.constraint.value) v) mid b → NoneStands free (in_128_bits (under_constraint al c)) a
+  pub extensible_refused : (al : Bool) (c : Constrained) (out : Bool) (v : ℤ) (a mid b : Position) →
+      may_be_outside (free Per.root_told_outside) out (is_within (range_of c.constraint.value) v) ≡ false → has_additions c ≡ true →
+      Front free (one_bit out) a mid → Front free (in_128_bits (behind_extension_bit al out c.constraint.value) v) mid b → NoneStands free (in_128_bits (under_constraint al c)) a
   extensible_refused al c false v a mid b t e f g w d h = false≢true (sym t ∙ free_or (free Per.root_told_outside) true (inl refl))
   extensible_refused al c true v a mid b t e f g w d h =
       let i = if_out free (is_within wide_range w) _ a d h in
       let r = extensible_out al c.constraint.value w (has_additions c) true a mid d e f i.1 in
       let q = (same_fronts free (unconstrained_alike free al w v) mid d b r (if_out free (is_within wide_range v) _ mid b g).1).0 in
       let o = extension_bit_told al c.constraint.value w (has_additions c) a mid d e f i.1 in
-      let may : (not (is_within (range_of c.constraint.value) v) ≡ true) ⊎ IsTrue (free Per.root_told_outside) = elim o [ inl z ↦ inl (ap not (ap (is_within (range_of c.constraint.value)) (sym q) ∙ z)) | inr z ↦ inr z ] in
+      let may : (not (is_within (range_of c.constraint.value) v) ≡ true) ⊎ IsTrue (free Per.root_told_outside) =
+      elim o [ inl z ↦ inl (ap not (ap (is_within (range_of c.constraint.value)) (sym q) ∙ z)) | inr z ↦ inr z ] in
       false≢true (sym t ∙ free_or _ _ may)
 
   pub extension_bit_missed : (al : Bool) (c : Constrained) (a : Position) → has_additions c ≡ true → NoneStands free one_bit a → NoneStands free (in_128_bits (under_constraint al c)) a

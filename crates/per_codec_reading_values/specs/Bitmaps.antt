@@ -1,4 +1,4 @@
--- What precedes additions (X.691 19.7).
+-- The presence bitmap of extension additions, and why there is none (X.691 19.7 and 19.8).
 use Rattle.std.specs.Prelude.{◌≡◌, ◌⊎◌, Bool, IsTrue, true, false, List, []}
 use Rattle.asn1_model.specs.Per
 use Rattle.asn1_schema_errors.specs.declared.DecodeError.{DecodeError}

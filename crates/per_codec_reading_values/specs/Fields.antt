@@ -1,4 +1,5 @@
--- Fields of bits, and octets that are skipped.
+-- Bits taken as a whole: a given number, bits after a normally small length (X.691 11.9.3.4), octets after a length
+-- determinant (11.9); and why unknown additions are not skipped (19.8).
 use Rattle.std.specs.Prelude.{◌≡◌, ◌↔◌, ℕ, ◌*◌, ◌<◌, ◌/◌, ◌==◌, Bool, List, length}
 use Rattle.asn1_model.specs.Form.{exactly, only_if}
 use Rattle.asn1_model.specs.Per

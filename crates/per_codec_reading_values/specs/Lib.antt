@@ -1,7 +1,7 @@
-pub mod Whole
-pub mod Places
+pub mod Integers
+pub mod Indices
 pub mod Fields
 pub mod Stretches
-pub mod Spelled
-pub mod Texts
+pub mod CharacterCodes
+pub mod CharacterStrings
 pub mod Bitmaps

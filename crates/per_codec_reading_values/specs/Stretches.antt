@@ -1,4 +1,4 @@
--- The read position in a range of bits, and where these are stored.
+-- What callers see of a `Stretch`: its read position with the bits after it, and where its bits are stored.
 use Rattle.per_codec_laws.specs.Takes.{Position}
 use Rattle.per_codec_reading.specs.Runs.{Storage}
 

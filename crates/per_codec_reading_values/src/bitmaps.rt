@@ -6,8 +6,8 @@ ghost use Rattle.asn1_values_bits.specs.BitStr.{bits_of};
 ghost use Rattle.per_codec_reading.specs.Fronts.{freedoms, is_aligned, IsFresh};
 ghost use Rattle.per_codec_reading_values.specs.Bitmaps.{HasBitmap, NoBitmap};
 
+use crate::Stretch;
 use crate::fields::Field;
-use crate::open_type::Stretch;
 use asn1_schema_errors::DecodeError;
 use asn1_values_bits::BitStr;
 use per_codec_reading::padding::are_zero;

@@ -7,8 +7,8 @@ ghost use Rattle.asn1_schema_constraints.specs.Bounds.{lower, range_of, upper};
 ghost use Rattle.per_codec_laws.specs.Takes.{Front};
 ghost use Rattle.per_codec_reading.specs.Fronts as fronts;
 ghost use Rattle.per_codec_reading.specs.Fronts.{freedoms, IsFresh, Misses};
-ghost use Rattle.per_codec_reading.specs.Sizes.{may_be_outside};
-ghost use Rattle.per_codec_reading_values.specs.Whole.{behind_extension_bit, in_128_bits, under_constraint};
+ghost use Rattle.per_codec_reading.specs.Headings.{may_be_outside};
+ghost use Rattle.per_codec_reading_values.specs.Integers.{behind_extension_bit, in_128_bits, under_constraint};
 
 use crate::number_octets::{read_semi_constrained, read_unconstrained};
 use asn1_schema_constraints::{Bounded, Extensible, Value};

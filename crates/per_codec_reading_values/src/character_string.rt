@@ -5,8 +5,8 @@ ghost use Rattle.asn1_model.specs.Strings.{is_of_octets as holds_octets};
 ghost use Rattle.asn1_values_alphabets.specs.Permitted.{permits_all};
 ghost use Rattle.per_codec_alphabets.specs.Octets.{is_encoded_as_octets as as_octets};
 ghost use Rattle.per_codec_reading.specs.Fronts.{is_aligned};
-ghost use Rattle.per_codec_reading_values.specs.Spelled.{Spells, IsRefused};
-ghost use Rattle.per_codec_reading_values.specs.Texts.{Stands, MissesString};
+ghost use Rattle.per_codec_reading_values.specs.CharacterCodes.{Spells, IsRefused};
+ghost use Rattle.per_codec_reading_values.specs.CharacterStrings.{Stands, MissesString};
 ghost use Rattle.per_codec_reading.specs.Fronts.{IsFresh};
 ghost use Rattle.per_codec_reading.specs.Runs.{bits_in};
 

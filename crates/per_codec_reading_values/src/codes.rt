@@ -7,7 +7,7 @@ ghost use Rattle.asn1_values_alphabets.specs.Permitted.{permits};
 ghost use Rattle.asn1_values_bits.specs.BitStr.{bits_of};
 ghost use Rattle.per_codec_alphabets.specs.Codes.{code_of, code_in};
 ghost use Rattle.per_codec_reading.specs.Fronts.{IsFresh};
-ghost use Rattle.per_codec_reading_values.specs.Spelled.{Spells, Stuck, IsFitting};
+ghost use Rattle.per_codec_reading_values.specs.CharacterCodes.{Spells, Stuck, IsFitting};
 
 use asn1_schema_errors::DecodeError;
 use asn1_values_alphabets::StaticPermittedAlphabet;

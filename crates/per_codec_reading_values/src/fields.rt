@@ -1,11 +1,11 @@
-//! Bits that are taken as a whole: presence bits, bitmaps, and the octets of open types.
-ghost use Rattle.std.specs.Prelude.{◌≡◌, ◌%◌, ◌||◌, not, length, IfOk, IfErr};
+//! Bits that are taken as a whole: presence bits and bitmaps.
+ghost use Rattle.std.specs.Prelude.{◌≡◌, ◌||◌, not, IfOk, IfErr};
 ghost use Rattle.asn1_model.specs.Per as Per;
 ghost use Rattle.per_codec_laws.specs.Takes.{Front};
 ghost use Rattle.per_codec_reading.specs.Fronts as fronts;
 ghost use Rattle.per_codec_reading.specs.Fronts.{freedoms, Misses};
-ghost use Rattle.per_codec_reading.specs.Runs.{bits_in, EndsWithLent};
-ghost use Rattle.per_codec_reading_values.specs.Fields.{field_form, few_form, bits_form, octets_form, LentInOneRun};
+ghost use Rattle.per_codec_reading.specs.Runs.{bits_in};
+ghost use Rattle.per_codec_reading_values.specs.Fields.{field_form, few_form, bits_form};
 
 use asn1_schema_errors::DecodeError;
 use per_codec_reading::boolean::read_bit;
@@ -48,7 +48,7 @@ fn is_accepted(rules: PackedRules, count: usize) -> bool
 /// Reads bits after a normally small length (X.691 11.9.3.4): up to 64 bits after a length of six bits, or any number
 /// after a general length determinant.
 #[inline(always)]
-fn read_bitmap<'input>(
+fn read_normally_few<'input>(
     alloc: Global,
     cursor: &mut Cursor<'input>,
     rules: PackedRules,
@@ -70,29 +70,6 @@ fn read_bitmap<'input>(
     Ok(RunBits::Lent(bits))
 }
 
-/// Reads the octets of an open type after their length determinant (X.691 11.2). Those in one run are borrowed.
-///
-/// # Errors
-///
-/// `Incomplete` if the bits end early, `NotValidCanonicalEncoding` if the largest fragments are not first, in strict
-/// rules, the errors of a length determinant, and `OutOfMemory`.
-#[inline(always)]
-pub(crate) fn read_octets<'input>(
-    alloc: Global,
-    cursor: &mut Cursor<'input>,
-    rules: PackedRules,
-) -> Result<RunBits<'input>, DecodeError>
-    ensures ok { IfOk result (λ bits. Front (freedoms rules)
-        (octets_form (fronts.is_aligned rules) (bits_in bits)) cursor.old cursor.new) }
-    ensures whole { IfOk result (λ bits. length (bits_in bits) % 8 ≡ 0) }
-    ensures lent { IfOk result LentInOneRun }
-    ensures last { IfOk result (λ bits. EndsWithLent bits cursor.old cursor.new) }
-    ensures only { IfErr result (Misses (freedoms rules) (octets_form (fronts.is_aligned rules)) cursor.old) }
-{
-    let run = read_counted(alloc, cursor, rules, 8)?;
-    Ok(run.bits)
-}
-
 /// Takes a field of bits. Those in one piece are borrowed.
 ///
 /// # Errors
@@ -112,6 +89,6 @@ pub(crate) fn read_field<'input>(
 {
     match field {
         Field::Bits(count) => read_bits(cursor, rules, count),
-        Field::Bitmap => read_bitmap(alloc, cursor, rules),
+        Field::Bitmap => read_normally_few(alloc, cursor, rules),
     }
 }

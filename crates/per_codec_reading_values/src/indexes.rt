@@ -4,7 +4,7 @@ ghost use Rattle.asn1_model.specs.Per as Per;
 ghost use Rattle.per_codec_laws.specs.Takes.{Front};
 ghost use Rattle.per_codec_reading.specs.Fronts as fronts;
 ghost use Rattle.per_codec_reading.specs.Fronts.{freedoms, Misses};
-ghost use Rattle.per_codec_reading_values.specs.Places.{root_form, added_form, index_form};
+ghost use Rattle.per_codec_reading_values.specs.Indices.{root_form, added_form, index_form};
 
 use crate::small::read_normally_small;
 use asn1_schema_errors::DecodeError;

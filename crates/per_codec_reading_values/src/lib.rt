@@ -13,8 +13,8 @@ pub mod integer;
 pub mod number_octets;
 mod octet_string;
 pub mod open_type;
-pub mod skipping;
 pub mod small;
+pub mod stretch;
 
 pub use bitmaps::read_bitmap;
 pub use character_string::read_characters;
@@ -23,6 +23,6 @@ pub use enumerated::read_item;
 pub use fields::Field;
 pub use indexes::read_alternative_index;
 pub use integer::read_integer;
-pub use open_type::Stretch;
-pub use skipping::skip_unknown;
+pub use open_type::skip_unknown;
 pub use small::read_normally_small;
+pub use stretch::Stretch;

@@ -8,7 +8,8 @@ ghost use Rattle.asn1_values_natives.specs.Octets.{signed_number, unsigned_numbe
 ghost use Rattle.per_codec_laws.specs.Takes.{Front};
 ghost use Rattle.per_codec_reading.specs.Fronts as fronts;
 ghost use Rattle.per_codec_reading.specs.Fronts.{freedoms, Misses};
-ghost use Rattle.per_codec_reading_values.specs.Whole.{has_spare, in_128_bits, number_octets, offset_form, is_offset};
+ghost use Rattle.per_codec_reading_values.specs.Integers.{has_spare, in_128_bits, number_octets, offset_form};
+ghost use Rattle.per_codec_reading_values.specs.Integers.{is_offset};
 
 use asn1_schema_errors::DecodeError;
 use asn1_values_natives::Wide;
@@ -46,6 +47,7 @@ fn is_accepted(rules: PackedRules, signed: bool, octets: &[u8]) -> bool
 ///
 /// `ZeroLengthOfLength` if there are none, `NotValidCanonicalEncoding` if the first one is redundant, in strict rules,
 /// and the errors of [`read_counted_octets`].
+#[inline(always)]
 pub fn read_number_octets<'input>(
     alloc: Global,
     cursor: &mut Cursor<'input>,

@@ -11,7 +11,7 @@ ghost use Rattle.per_codec_laws.specs.Takes.{Front};
 ghost use Rattle.per_codec_reading.specs.Fronts.{freedoms, Misses};
 ghost use Rattle.per_codec_reading.specs.Fronts as fronts;
 ghost use Rattle.per_codec_reading.specs.Runs.{bits_in, EndsAtOctet, InOneRun, storage_of};
-ghost use Rattle.per_codec_reading.specs.Sizes.{told_in_front};
+ghost use Rattle.per_codec_reading.specs.Headings.{told_in_front};
 ghost use Rattle.per_codec_reading_values.specs.Fields.{EndsAt};
 
 use asn1_schema_constraints::{Bounded, Sizes};
@@ -52,7 +52,7 @@ fn read_octet_string<'input>(
         (Per.form (fronts.is_aligned rules) (Asn1.octet_string (size_of sizes) (counts_of held)))
         (position, drop position (bits_of bits.entry))) }
 {
-    let mut cursor = Cursor::behind(bits, position);
+    let mut cursor = Cursor::at(bits, position);
     let units = read_sized(alloc, &mut cursor, rules, sizes, held, 8, Contents::Strings)?;
     let end = cursor.position();
     let run = Run {

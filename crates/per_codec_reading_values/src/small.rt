@@ -4,7 +4,7 @@ ghost use Rattle.asn1_model.specs.Per as Per;
 ghost use Rattle.per_codec_laws.specs.Takes.{Front};
 ghost use Rattle.per_codec_reading.specs.Fronts as fronts;
 ghost use Rattle.per_codec_reading.specs.Fronts.{freedoms, Misses};
-ghost use Rattle.per_codec_reading_values.specs.Places.{small_form};
+ghost use Rattle.per_codec_reading_values.specs.Indices.{small_form};
 
 use crate::number_octets::read_semi_constrained;
 use asn1_schema_errors::DecodeError;

@@ -7,9 +7,10 @@ use crate::LONG_COUNT;
 use asn1_schema_constraints::Bounded;
 
 /// The upper bound of the root of a size, if it determines the form of the length determinant: it is below 65536
-/// (X.691 11.9.4.1).
+/// (X.691 11.9.4.1). `None` for SIZE (1..70000): a general length determinant then gives the count, in lists written by
+/// `begin_members` of `per_codec_encoder` and read by `read_members` of `per_codec_decoder`.
 #[inline(always)]
-pub fn told_highest(root: Bounded<usize>) -> Option<usize>
+pub fn highest_below_64k(root: Bounded<usize>) -> Option<usize>
     ensures highest { result ≡ below_long_count (upper root) }
     ensures bound { IfSome result (λ highest. highest < 65536) }
 {

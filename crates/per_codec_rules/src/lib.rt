@@ -7,7 +7,7 @@ pub mod counts;
 pub mod padding;
 pub mod variant;
 
-pub use counts::told_highest;
+pub use counts::highest_below_64k;
 pub use padding::{characters_have_padding, string_has_padding};
 pub use variant::Variant;
 

@@ -8,14 +8,14 @@ use Rattle.per_codec_packing.specs.FieldLists.{FieldList, as_field_list, on, fie
 use Rattle.per_codec_packing.proofs.Formed.{as_field_list-append}
 use Rattle.per_codec_writing.specs.Writing.{Packed, Adds, Refuses, place, plus}
 use Rattle.per_codec_writing.proofs.PaddingFieldLists.{adds_field_list}
-use Rattle.per_codec_writing.specs.Units.{together, forms_of}
+use Rattle.per_codec_writing.specs.Units.{together, unit_forms}
 
-joined_field_list : (ts : List (List Bool)) (p : Option ℕ) → field_list_at (joined (forms_of ts)) p ≡ Some (as_field_list (together ts))
+joined_field_list : (ts : List (List Bool)) (p : Option ℕ) → field_list_at (joined (unit_forms ts)) p ≡ Some (as_field_list (together ts))
 unfolding field_list_at
 joined_field_list [] p = refl
 joined_field_list (t ∷ ts) p = ap (option_map (λ v. as_field_list t ++ v)) (joined_field_list ts (on p (as_field_list t))) ∙ ap Some (as_field_list-append t (together ts))
 
-pub adds_joined : (ts : List (List Bool)) (old new : Packed) → new ≡ plus old (as_field_list (together ts)) → Adds (field_list_at (joined (forms_of ts)) (place old)) old new
+pub adds_joined : (ts : List (List Bool)) (old new : Packed) → new ≡ plus old (as_field_list (together ts)) → Adds (field_list_at (joined (unit_forms ts)) (place old)) old new
 adds_joined ts old new e = adds_field_list _ (as_field_list (together ts)) old new (joined_field_list ts (place old)) e
 
 -- if one field-list is missing, so is another
@@ -29,6 +29,7 @@ pub refuses_memory : (o : Option FieldList) (e : EncodeError) → e ≡ OutOfMem
 refuses_memory o e h = subst (Refuses o) (sym h) tt
 
 -- what a `?` passes on
-pub raised : (o o' : Option FieldList) (A : Unit {0} → Type 0) (x : EncodeError) (r : Result (Unit {0}) EncodeError) → IsErrAnd r (λ y. y ≡ x) → (o ≡ None → o' ≡ None) → Refuses o x → MatchResult r A (Refuses o')
+pub raised : (o o' : Option FieldList) (A : Unit {0} → Type 0) (x : EncodeError) (r : Result (Unit {0}) EncodeError) → IsErrAnd r (λ y. y ≡ x) →
+    (o ≡ None → o' ≡ None) → Refuses o x → MatchResult r A (Refuses o')
 raised o o' A x (Ok v) h n p = absurd h
 raised o o' A x (Err y) h n p = refuses_also o o' y n (subst (Refuses o) (sym h) p)

@@ -44,7 +44,8 @@ module _ (root outside : Per.BitForm) where
   inside_field_list true false p d w = cc
   inside_field_list false within p d w = cc
 
-  outside_field_list : (e within : Bool) (p : Option ℕ) → e ≡ true → within ≡ false → field_list_at (Per.with_extension_bit e within root outside) p ≡ field_list_at (both (exactly (true ∷ [])) outside) p
+  outside_field_list : (e within : Bool) (p : Option ℕ) → e ≡ true → within ≡ false → field_list_at (Per.with_extension_bit e within root outside) p
+      ≡ field_list_at (both (exactly (true ∷ [])) outside) p
   unfolding Per.with_extension_bit field_list_at
   outside_field_list true false p d w = refl
   outside_field_list true true p d w = cc
@@ -54,11 +55,15 @@ module _ (root outside : Per.BitForm) where
   unfolding field_list_at
   adds_extension_bit b m old mid e f = adds_field_list _ (as_field_list (b ∷ [])) old mid refl (e ∙ ap (λ x. plus old (as_field_list (x ∷ []))) f)
 
-  pub did_inside : {T : Type 0} (r : Result T EncodeError) (e within : Bool) (old mid new : Packed) → e ≡ true → within ≡ true → mid ≡ plus old (as_field_list (not within ∷ [])) → Did r (field_list_at root (place mid)) mid new → Did r (field_list_at (Per.with_extension_bit e within root outside) (place old)) old new
-  did_inside r e within old mid new d w m h = did_same r _ _ old new (inside_field_list e within (place old) d w) (did_behind r (exactly (false ∷ [])) root old mid new (adds_extension_bit false (not within) old mid m (ap not w)) h)
+  pub did_inside : {T : Type 0} (r : Result T EncodeError) (e within : Bool) (old mid new : Packed) → e ≡ true → within ≡ true →
+      mid ≡ plus old (as_field_list (not within ∷ [])) → Did r (field_list_at root (place mid)) mid new → Did r (field_list_at (Per.with_extension_bit e within root outside) (place old)) old new
+  did_inside r e within old mid new d w m h = did_same r _ _ old new (inside_field_list e within (place old) d w)
+      (did_behind r (exactly (false ∷ [])) root old mid new (adds_extension_bit false (not within) old mid m (ap not w)) h)
 
-  pub adds_outside : (e within : Bool) (old mid new : Packed) → e ≡ true → within ≡ false → mid ≡ plus old (as_field_list (not within ∷ [])) → Adds (field_list_at outside (place mid)) mid new → Adds (field_list_at (Per.with_extension_bit e within root outside) (place old)) old new
-  adds_outside e within old mid new d w m h = adds_same _ _ old new (outside_field_list e within (place old) d w) (adds_both (exactly (true ∷ [])) outside old mid new (adds_extension_bit true (not within) old mid m (ap not w)) h)
+  pub adds_outside : (e within : Bool) (old mid new : Packed) → e ≡ true → within ≡ false → mid ≡ plus old (as_field_list (not within ∷ [])) →
+      Adds (field_list_at outside (place mid)) mid new → Adds (field_list_at (Per.with_extension_bit e within root outside) (place old)) old new
+  adds_outside e within old mid new d w m h = adds_same _ _ old new (outside_field_list e within (place old) d w)
+      (adds_both (exactly (true ∷ [])) outside old mid new (adds_extension_bit true (not within) old mid m (ap not w)) h)
 
 -- ---- numbers that the Rust type and 128 bits hold
 
@@ -86,20 +91,30 @@ held_within : (c : Extensible Value) (h : Range) (v : ℤ) → is_within (held_o
 held_within c h v =
     both_by (from_is (later is_at_most h.low wide.low) v ∙ (later_admits is_at_most number_order h.low wide.low v ∙ sym (both_by (from_is h.low v) (from_is wide.low v))))
     (to_is (earlier is_at_most h.high wide.high) v ∙ (earlier_admits is_at_most number_order h.high wide.high v ∙ sym (both_by (to_is h.high v) (to_is wide.high v))))
-    ∙ regroup (option_map_or (λ x. is_at_most x v) h.low true) (option_map_or (λ x. is_at_most x v) wide.low true) (option_map_or (λ x. is_at_most v x) h.high true) (option_map_or (λ x. is_at_most v x) wide.high true)
+    ∙ regroup (option_map_or (λ x. is_at_most x v) h.low true) (option_map_or (λ x. is_at_most x v) wide.low true)
+    (option_map_or (λ x. is_at_most v x) h.high true) (option_map_or (λ x. is_at_most v x) wide.high true)
 
 within_wide : (v : ℤ) → is_within wide v ≡ true → plain v < 2 ^ 127
-within_wide (pos m) w = let h : pos m ≤ℤ pos (2 ^ 127 - 1) = is_at_most_le (pos m) (pos (2 ^ 127 - 1)) (and_parts (is_at_most (negsuc (2 ^ 127 - 1)) (pos m)) (is_at_most (pos m) (pos (2 ^ 127 - 1))) w).1 in omega (arith, ints)
-within_wide (negsuc m) w = let h : negsuc (2 ^ 127 - 1) ≤ℤ negsuc m = is_at_most_le (negsuc (2 ^ 127 - 1)) (negsuc m) (and_parts (is_at_most (negsuc (2 ^ 127 - 1)) (negsuc m)) (is_at_most (negsuc m) (pos (2 ^ 127 - 1))) w).0 in omega (arith, ints)
+within_wide (pos m) w = let h : pos m ≤ℤ pos (2 ^ 127 - 1) =
+    is_at_most_le (pos m) (pos (2 ^ 127 - 1)) (and_parts (is_at_most (negsuc (2 ^ 127 - 1)) (pos m)) (is_at_most (pos m) (pos (2 ^ 127 - 1))) w).1 in omega (arith, ints)
+within_wide (negsuc m) w = let h : negsuc (2 ^ 127 - 1) ≤ℤ negsuc m =
+    is_at_most_le (negsuc (2 ^ 127 - 1)) (negsuc m) (and_parts (is_at_most (negsuc (2 ^ 127 - 1)) (negsuc m)) (is_at_most (negsuc m) (pos (2 ^ 127 - 1))) w).0 in omega (arith, ints)
 
-pub unbounded_field_list : (al : Bool) (h : Range) (v : ℤ) (p : Option ℕ) → is_within h v ≡ true → field_list_at (Per.form al (integer (bounds_of None) (held_of None h)) (number v)) p ≡ field_list_at (Per.unconstrained al v) p
+pub unbounded_field_list : (al : Bool) (h : Range) (v : ℤ) (p : Option ℕ) → is_within h v ≡ true →
+    field_list_at (Per.form al (integer (bounds_of None) (held_of None h)) (number v)) p ≡ field_list_at (Per.unconstrained al v) p
 unfolding Per.form Per.integer_form Per.with_extension_bit Per.whole_number
 unbounded_field_list al h v p e = if_true (is_within h v && true) (Per.unconstrained al v) p (both_by e refl)
 
-pub bounded_field_list : (al : Bool) (c : Extensible Value) (h : Range) (v : ℤ) (p : Option ℕ) → is_within h v ≡ true → is_within wide v ≡ true → field_list_at (Per.form al (integer (bounds_of (Some c)) (held_of (Some c) h)) (number v)) p ≡ field_list_at (Per.with_extension_bit (bounds_of (Some c)).extensible (is_within (bounds_of (Some c)).range v) (Per.whole_number al (lower c.constraint.value) (upper c.constraint.value) v) (Per.unconstrained al v)) p
+pub bounded_field_list : (al : Bool) (c : Extensible Value) (h : Range) (v : ℤ) (p : Option ℕ) → is_within h v ≡ true → is_within wide v ≡ true →
+    field_list_at (Per.form al (integer (bounds_of (Some c)) (held_of (Some c) h)) (number v)) p
+    ≡ field_list_at (Per.with_extension_bit (bounds_of (Some c)).extensible (is_within (bounds_of (Some c)).range v)
+    (Per.whole_number al (lower c.constraint.value) (upper c.constraint.value) v) (Per.unconstrained al v)) p
 unfolding Per.form Per.integer_form
-bounded_field_list al c h v p e w = if_true (is_within (held_of (Some c) h) v && (not (is_bounded (bounds_of (Some c))) || fits_128 v)) _ p (both_by (held_within c h v ∙ both_by e w) (or_right (not (is_bounded (bounds_of (Some c)))) (fits_128 v) (le-leb (signed_octets v) 16 (signed_octets-le v 15 (within_wide v w)))))
+bounded_field_list al c h v p e w = if_true (is_within (held_of (Some c) h) v && (not (is_bounded (bounds_of (Some c))) || fits_128 v)) _ p
+    (both_by (held_within c h v ∙ both_by e w) (or_right (not (is_bounded (bounds_of (Some c)))) (fits_128 v) (le-leb (signed_octets v) 16 (signed_octets-le v 15 (within_wide v w)))))
 
-pub wide_none : (al : Bool) (c : Extensible Value) (h : Range) (v : ℤ) (p : Option ℕ) → is_within wide v ≡ false → field_list_at (Per.form al (integer (bounds_of (Some c)) (held_of (Some c) h)) (number v)) p ≡ None
+pub wide_none : (al : Bool) (c : Extensible Value) (h : Range) (v : ℤ) (p : Option ℕ) → is_within wide v ≡ false →
+    field_list_at (Per.form al (integer (bounds_of (Some c)) (held_of (Some c) h)) (number v)) p ≡ None
 unfolding Per.form Per.integer_form
-wide_none al c h v p w = if_false (is_within (held_of (Some c) h) v && (not (is_bounded (bounds_of (Some c))) || fits_128 v)) _ p (ap (λ b. b && (not (is_bounded (bounds_of (Some c))) || fits_128 v)) (held_within c h v ∙ and_right (is_within h v) (is_within wide v) w))
+wide_none al c h v p w = if_false (is_within (held_of (Some c) h) v && (not (is_bounded (bounds_of (Some c))) || fits_128 v)) _ p
+    (ap (λ b. b && (not (is_bounded (bounds_of (Some c))) || fits_128 v)) (held_within c h v ∙ and_right (is_within h v) (is_within wide v) w))

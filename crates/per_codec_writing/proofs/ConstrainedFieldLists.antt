@@ -1,5 +1,7 @@
 -- The field-lists of constrained whole numbers.
-use Rattle.std.proofs.Common.{◌≡◌, ℕ, zero, suc, ◌+◌, ◌-◌, ◌*◌, ◌/◌, ◌%◌, ◌^◌, ◌<◌, ◌≤◌, ◌==◌, Bool, true, false, not, cond, ltb, leb, ◌&&◌, ◌||◌, ◌++◌, flat_map, Option, None, Some, refl, ap, subst, sym, ◌∙◌, arith}
+use Rattle.std.proofs.Common.{◌≡◌, ℕ, zero, suc, ◌+◌, ◌-◌, ◌*◌, ◌/◌, ◌%◌, ◌^◌, ◌<◌, ◌≤◌, ◌==◌, Bool, true, false, not}
+use Rattle.std.proofs.Common.{cond, ltb, leb, ◌&&◌, ◌||◌, ◌++◌, flat_map, Option, None, Some, refl, ap, subst, sym, ◌∙◌}
+use Rattle.std.proofs.Common.{arith}
 use Rattle.std.proofs.lemmas.Bool.{lt-ltb, le-ltb, le-leb, lt-leb, eq-eqb, ne_eqb, and_from, or_right}
 use Rattle.asn1_model.specs.Form.{exactly, varied}
 use Rattle.asn1_model.specs.Numbers.{binary, digits, width, octet_width, least_octets}
@@ -27,7 +29,8 @@ pub outside : (al : Bool) (span d : ℕ) (p : Option ℕ) → span < d → field
 unfolding Per.constrained Per.constrained_in
 outside al span d p h = if_false (leb d span) _ p (lt-leb _ _ h)
 
-in_bits : (most : ℕ) (al : Bool) (span d : ℕ) (p : Option ℕ) → d ≤ span → (not al || ltb span 255) ≡ true → field_list_at (Per.constrained_in (suc most) al span d) p ≡ Some (as_field_list (binary (width span) d))
+in_bits : (most : ℕ) (al : Bool) (span d : ℕ) (p : Option ℕ) → d ≤ span → (not al || ltb span 255) ≡ true →
+    field_list_at (Per.constrained_in (suc most) al span d) p ≡ Some (as_field_list (binary (width span) d))
 unfolding Per.constrained_in field_list_at
 in_bits most al span d p h t = if_true (leb d span) _ p (le-leb _ _ h) ∙ cond_true (not al || ltb span 255) _ _ p t
 
@@ -37,17 +40,24 @@ constrained_bits al span d p h t = in_bits span al span d p h t
 
 -- ---- octet-aligned numbers
 
-large : (most span d : ℕ) (p : Option ℕ) → d ≤ span → 255 ≤ span → field_list_at (Per.constrained_in (suc most) true span d) p ≡ field_list_at (cond (span == 255) (Per.at_octet true (exactly (binary 8 d))) (cond (ltb span 65536) (Per.at_octet true (exactly (binary 16 d))) (Per.in_octets_of (λ s c. Per.constrained_in most true s c) true span d (least_octets d)))) p
+large : (most span d : ℕ) (p : Option ℕ) → d ≤ span → 255 ≤ span → field_list_at (Per.constrained_in (suc most) true span d) p
+    ≡ field_list_at (cond (span == 255) (Per.at_octet true (exactly (binary 8 d)))
+    (cond (ltb span 65536) (Per.at_octet true (exactly (binary 16 d))) (Per.in_octets_of (λ s c. Per.constrained_in most true s c) true span d (least_octets d)))) p
 unfolding Per.constrained_in field_list_at
 large most span d p h l = if_true (leb d span) _ p (le-leb _ _ h) ∙ cond_false (ltb span 255) _ _ p (le-ltb _ _ l) ∙ fits (span == 255) (ltb span 65536)
   where
-    fits : (s t : Bool) → field_list_at (cond s (Per.at_octet true (exactly (binary 8 d))) (cond t (Per.at_octet true (exactly (binary 16 d))) (varied Per.longer_number (least_octets d) (λ k. Per.in_octets_of (λ s c. Per.constrained_in most true s c) true span d k)))) p ≡ field_list_at (cond s (Per.at_octet true (exactly (binary 8 d))) (cond t (Per.at_octet true (exactly (binary 16 d))) (Per.in_octets_of (λ s c. Per.constrained_in most true s c) true span d (least_octets d)))) p
+    fits : (s t : Bool) → field_list_at
+        (cond s (Per.at_octet true (exactly (binary 8 d))) (cond t (Per.at_octet true (exactly (binary 16 d)))
+        (varied Per.longer_number (least_octets d) (λ k. Per.in_octets_of (λ s c. Per.constrained_in most true s c) true span d k)))) p
+        ≡ field_list_at (cond s (Per.at_octet true (exactly (binary 8 d)))
+        (cond t (Per.at_octet true (exactly (binary 16 d))) (Per.in_octets_of (λ s c. Per.constrained_in most true s c) true span d (least_octets d)))) p
     fits true t = refl
     fits false true = refl
     fits false false = refl
 
 -- 256 values
-pub adds_octet : (span d : ℕ) (old mid new : Packed) → d ≤ span → span ≡ 255 → mid ≡ plus old (padding_if true (place old)) → new ≡ plus mid (as_field_list (binary 8 d)) → Adds (field_list_at (Per.constrained true span d) (place old)) old new
+pub adds_octet : (span d : ℕ) (old mid new : Packed) → d ≤ span → span ≡ 255 → mid ≡ plus old (padding_if true (place old)) →
+    new ≡ plus mid (as_field_list (binary 8 d)) → Adds (field_list_at (Per.constrained true span d) (place old)) old new
 unfolding Per.constrained
 adds_octet span d old mid new h s e f =
     adds_same _ _ old new
@@ -55,7 +65,8 @@ adds_octet span d old mid new h s e f =
     (adds_bits_at_octet true (binary 8 d) old mid new e f)
 
 -- up to 65536 values
-pub adds_two_octets : (span d : ℕ) (old mid new : Packed) → d ≤ span → 255 < span → span < 65536 → mid ≡ plus old (padding_if true (place old)) → new ≡ plus mid (as_field_list (binary 16 d)) → Adds (field_list_at (Per.constrained true span d) (place old)) old new
+pub adds_two_octets : (span d : ℕ) (old mid new : Packed) → d ≤ span → 255 < span → span < 65536 → mid ≡ plus old (padding_if true (place old)) →
+    new ≡ plus mid (as_field_list (binary 16 d)) → Adds (field_list_at (Per.constrained true span d) (place old)) old new
 unfolding Per.constrained
 adds_two_octets span d old mid new h s t e f =
     adds_same _ _ old new
@@ -76,7 +87,9 @@ at_least_three (suc (suc (suc w))) span b h = omega arith
 pub octets_of_span : (span : ℕ) → 65536 ≤ span → span < 2 ^ 128 → (3 ≤ octet_width span) × (octet_width span ≤ 16)
 octets_of_span span h k = let b = octet_width-octets span in (at_least_three (octet_width span) span b.below h, octets-least span 16 (octet_width span) b k)
 
-pub adds_fewest : (span d : ℕ) (old number mid new : Packed) → d ≤ span → 65536 ≤ span → span < 2 ^ 128 → number ≡ plus old (as_field_list (binary (width (octet_width span - 1)) (least_octets d - 1))) → mid ≡ plus number (padding_if true (place number)) → new ≡ plus mid (as_field_list (binary (least_octets d * 8) d)) → Adds (field_list_at (Per.constrained true span d) (place old)) old new
+pub adds_fewest : (span d : ℕ) (old number mid new : Packed) → d ≤ span → 65536 ≤ span → span < 2 ^ 128 →
+    number ≡ plus old (as_field_list (binary (width (octet_width span - 1)) (least_octets d - 1))) →
+    mid ≡ plus number (padding_if true (place number)) → new ≡ plus mid (as_field_list (binary (least_octets d * 8) d)) → Adds (field_list_at (Per.constrained true span d) (place old)) old new
 unfolding Per.constrained Per.in_octets_of
 adds_fewest span d old number mid new h s t e f g =
     let k : ℕ = least_octets d in
@@ -85,7 +98,8 @@ adds_fewest span d old number mid new h s t e f g =
     let fewer : octet_width d ≤ most = octets_grow d span h in
     let fuel : suc (span - 1) ≡ span = omega arith in
     let count : field_list_at (Per.constrained_in span true (most - 1) (k - 1)) (place old) ≡ Some (as_field_list (binary (width (most - 1)) (k - 1))) =
-    subst (λ m. field_list_at (Per.constrained_in m true (most - 1) (k - 1)) (place old) ≡ Some (as_field_list (binary (width (most - 1)) (k - 1)))) fuel (in_bits (span - 1) true (most - 1) (k - 1) (place old) (omega arith) (lt-ltb _ _ (omega arith))) in
+    subst (λ m. field_list_at (Per.constrained_in m true (most - 1) (k - 1)) (place old) ≡ Some (as_field_list (binary (width (most - 1)) (k - 1))))
+    fuel (in_bits (span - 1) true (most - 1) (k - 1) (place old) (omega arith) (lt-ltb _ _ (omega arith))) in
     adds_same _ _ old new
     (large span span d (place old) h (omega arith) ∙ cond_false (span == 255) _ _ (place old) (ne_eqb _ _ (λ x. omega arith)) ∙ cond_false (ltb span 65536) _ _ (place old) (le-ltb _ _ s)
     ∙ if_true (leb k k && leb k most) _ (place old) (and_from (leb k k) (leb k most) (le-leb k k (omega arith)) (le-leb k most (omega arith))))

@@ -1,5 +1,6 @@
 -- Units in fragments, the largest first (X.691 11.9.3.8), and octets after a length determinant.
-use Rattle.std.proofs.Common.{◌≡◌, ℕ, suc, ◌-◌, ◌*◌, ◌/◌, ◌%◌, ◌<◌, ◌≤◌, ◌==◌, min, Bool, true, false, cond, not, ◌&&◌, List, [], ◌∷◌, ◌++◌, filter, replicate, inl, inr, refl, ap, sym, ◌∙◌, arith, get_or, Fits}
+use Rattle.std.proofs.Common.{◌≡◌, ℕ, suc, ◌-◌, ◌*◌, ◌/◌, ◌%◌, ◌<◌, ◌≤◌, ◌==◌, min, Bool, true, false, cond, not, ◌&&◌}
+use Rattle.std.proofs.Common.{List, [], ◌∷◌, ◌++◌, filter, replicate, inl, inr, refl, ap, sym, ◌∙◌, arith, get_or, Fits}
 use Rattle.std.specs.Int.{w8}
 use Rattle.std.proofs.lemmas.Bool.{cases_lt, lt-ltb, eqb-true}
 use Rattle.asn1_model.specs.Strings.{is_octet}
@@ -63,6 +64,7 @@ octets_are (o ∷ os) h = ap (λ b. b && list_all is_octet os) (lt-ltb _ _ h.0) 
 pub all_octets : (os : List ℕ) → ((i : ℕ) → Fits w8 (get_or os i 0)) → list_all is_octet os ≡ true
 all_octets os h = octets_are os (octets-all os h)
 
-pub adds_octets : (al : Bool) (os : List ℕ) (old new : Packed) → list_all is_octet os ≡ true → Adds (field_list_at (Per.counted al (Per.octet_units os)) (place old)) old new → Adds (field_list_at (Per.counted_octets al os) (place old)) old new
+pub adds_octets : (al : Bool) (os : List ℕ) (old new : Packed) → list_all is_octet os ≡ true →
+    Adds (field_list_at (Per.counted al (Per.octet_units os)) (place old)) old new → Adds (field_list_at (Per.counted_octets al os) (place old)) old new
 unfolding Per.counted_octets
 adds_octets al os old new h a = adds_same _ _ old new (if_true (list_all is_octet os) (Per.counted al (Per.octet_units os)) (place old) h) a

@@ -30,18 +30,22 @@ contents_more first xs i h =
     ∙ ap (λ l. groups_of_seven first ++ l) (flat_map-append groups_of_seven front (x ∷ []) ∙ ap (λ l. flat_map groups_of_seven front ++ l) (append-nil (groups_of_seven x)))
     ∙ sym (append_assoc (groups_of_seven first) (flat_map groups_of_seven front) (groups_of_seven x))
 
-pub more_contents : (first : ℕ) (xs : List ℕ) (i n : ℕ) (old mid new : Packed) → i < length xs → n ≡ get_or xs i 0 → mid ≡ plus old (as_field_list (octet_bits (contents first (take i xs)))) → new ≡ plus mid (as_field_list (octet_bits (groups_of_seven n))) → new ≡ plus old (as_field_list (octet_bits (contents first (take (i + 1) xs))))
+pub more_contents : (first : ℕ) (xs : List ℕ) (i n : ℕ) (old mid new : Packed) → i < length xs → n ≡ get_or xs i 0 →
+    mid ≡ plus old (as_field_list (octet_bits (contents first (take i xs)))) → new ≡ plus mid (as_field_list (octet_bits (groups_of_seven n))) →
+    new ≡ plus old (as_field_list (octet_bits (contents first (take (i + 1) xs))))
 more_contents first xs i n old mid new h m e f =
     let front : List ℕ = contents first (take i xs) in
     let behind : List ℕ = groups_of_seven (get_or xs i 0) in
-    f ∙ ap (λ k. plus mid (as_field_list (octet_bits (groups_of_seven k)))) m ∙ ap (λ p. plus p (as_field_list (octet_bits behind))) e ∙ plus_both old (as_field_list (octet_bits front)) (as_field_list (octet_bits behind))
+    f ∙ ap (λ k. plus mid (as_field_list (octet_bits (groups_of_seven k)))) m ∙ ap (λ p. plus p (as_field_list (octet_bits behind))) e ∙
+    plus_both old (as_field_list (octet_bits front)) (as_field_list (octet_bits behind))
     ∙ ap (plus old) (as_field_list-append (octet_bits front) (octet_bits behind) ∙ ap as_field_list (sym (octet_bits-append front behind) ∙ ap octet_bits (sym (contents_more first xs i h))))
 
 unit_count : (os : List ℕ) → length (Per.octet_units os) ≡ length os
 unit_count [] = refl
 unit_count (o ∷ os) = ap suc (unit_count os)
 
-pub short_counted : (al : Bool) (os : List ℕ) (n : ℕ) (old mid new : Packed) → list_all is_octet os ≡ true → n ≡ length os → n < 16384 → Adds (field_list_at (Per.short_length al n) (place old)) old mid → new ≡ plus mid (as_field_list (octet_bits os)) → Adds (field_list_at (Per.counted_octets al os) (place old)) old new
+pub short_counted : (al : Bool) (os : List ℕ) (n : ℕ) (old mid new : Packed) → list_all is_octet os ≡ true → n ≡ length os → n < 16384 →
+    Adds (field_list_at (Per.short_length al n) (place old)) old mid → new ≡ plus mid (as_field_list (octet_bits os)) → Adds (field_list_at (Per.counted_octets al os) (place old)) old new
 short_counted al os n old mid new h e l a b =
     let due : Due = record { units = n; behind = None } in
     adds_octets al os old new h

@@ -10,7 +10,8 @@ one_behind [] (v ∷ ws) t w r k = absurd r
 one_behind (s ∷ ts) [] t w r k = absurd r
 one_behind (s ∷ ts) (v ∷ ws) t w r k = (r.0, one_behind ts ws t w r.1 k)
 
-pub next_keyed : (ts : List FieldList) (ws all : List (List ℕ)) (i : ℕ) (t : FieldList) (w : List ℕ) → i < length ts → AreKeyed (take i ts) ws → t ≡ get_or ts i [] → IsKeyed t w → all ≡ ws ++ w ∷ [] → AreKeyed (take (i + 1) ts) all
+pub next_keyed : (ts : List FieldList) (ws all : List (List ℕ)) (i : ℕ) (t : FieldList) (w : List ℕ) → i < length ts → AreKeyed (take i ts) ws →
+    t ≡ get_or ts i [] → IsKeyed t w → all ≡ ws ++ w ∷ [] → AreKeyed (take (i + 1) ts) all
 next_keyed ts ws all i t w h r e k f =
     subst (AreKeyed (take (i + 1) ts)) (sym f)
     (subst (λ us. AreKeyed us (ws ++ w ∷ [])) (ap (λ u. take i ts ++ u ∷ []) e ∙ sym (take_more ts i [] h)) (one_behind (take i ts) ws t w r k))

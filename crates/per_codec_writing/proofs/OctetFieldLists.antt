@@ -14,7 +14,7 @@ use Rattle.per_codec_alphabets.specs.Codes.{Coded, SameCharacters, text_of}
 use Rattle.per_codec_packing.specs.FieldLists.{field_list_at}
 use Rattle.per_codec_writing.specs.Writing.{Packed, Adds, place}
 use Rattle.per_codec_writing.proofs.PaddingFieldLists.{adds_same, if_true}
-use Rattle.per_codec_writing.specs.Units.{forms_of}
+use Rattle.per_codec_writing.specs.Units.{unit_forms}
 use Rattle.per_codec_writing.specs.Characters.{field_lists_of}
 
 all_octets : (k : StringKind) → is_of_octets k ≡ true → characters_of k ≡ run 0 255 ∷ []
@@ -58,19 +58,23 @@ own_field_list a c s e h =
     ∙ ap (λ o. binary 8 (unwrap_or (option_map (λ i. cond (ltb 255 (2 ^ 8)) c i) o) 0)) (s.places c)
     ∙ ap (λ o. binary 8 (unwrap_or o 0)) (own_code c h)
 
-own_field_lists : (a : Coded) (cs : List ℕ) → SameCharacters a.runs octets → a.code_bits ≡ 8 → list_all (is_among octets) cs ≡ true → forms_of (field_lists_of a cs) ≡ Per.octet_units cs
+own_field_lists : (a : Coded) (cs : List ℕ) → SameCharacters a.runs octets → a.code_bits ≡ 8 → list_all (is_among octets) cs ≡ true → unit_forms (field_lists_of a cs) ≡ Per.octet_units cs
 own_field_lists a [] s e h = refl
-own_field_lists a (c ∷ cs) s e h = let p = and_parts _ _ h in ap (λ t. exactly t ∷ forms_of (field_lists_of a cs)) (own_field_list a c s e p.0) ∙ ap (λ l. exactly (binary 8 c) ∷ l) (own_field_lists a cs s e p.1)
+own_field_lists a (c ∷ cs) s e h = let p = and_parts _ _ h in ap (λ t. exactly t ∷ unit_forms (field_lists_of a cs)) (own_field_list a c s e p.0) ∙
+    ap (λ l. exactly (binary 8 c) ∷ l) (own_field_lists a cs s e p.1)
 
 are_octets : (cs : List ℕ) → list_all (is_among octets) cs ≡ true → list_all is_octet cs ≡ true
 are_octets [] h = refl
 are_octets (c ∷ cs) h = let p = and_parts _ _ h in ap (λ b. b && list_all is_octet cs) (octet c p.0) ∙ are_octets cs p.1
 
-pub octets_field_list : (al : Bool) (k : StringKind) (a : Coded) (cs : List ℕ) (old new : Packed) (rs : List Run) → is_of_octets k ≡ true → permits_all k cs ≡ true → rs ≡ characters_of k → SameCharacters a.runs rs → a.code_bits ≡ Per.character_bits al rs → Adds (field_list_at (Per.counted al (forms_of (field_lists_of a cs))) (place old)) old new → Adds (field_list_at (Per.counted_octets al cs) (place old)) old new
+pub octets_field_list : (al : Bool) (k : StringKind) (a : Coded) (cs : List ℕ) (old new : Packed) (rs : List Run) → is_of_octets k ≡ true →
+    permits_all k cs ≡ true → rs ≡ characters_of k → SameCharacters a.runs rs → a.code_bits ≡ Per.character_bits al rs →
+    Adds (field_list_at (Per.counted al (unit_forms (field_lists_of a cs))) (place old)) old new → Adds (field_list_at (Per.counted_octets al cs) (place old)) old new
 unfolding Per.counted_octets
 octets_field_list al k a cs old new rs o h e s b w =
     let r : rs ≡ octets = e ∙ all_octets k o in
     let m : list_all (is_among octets) cs ≡ true = ap (λ q. list_all (is_among q) cs) (sym (all_octets k o)) ∙ h in
     let t : SameCharacters a.runs octets = subst (λ q. SameCharacters a.runs q) r s in
     let n : a.code_bits ≡ 8 = b ∙ ap (Per.character_bits al) r ∙ eight al in
-    adds_same _ _ old new (if_true (list_all is_octet cs) (Per.counted al (Per.octet_units cs)) (place old) (are_octets cs m) ∙ ap (λ us. field_list_at (Per.counted al us) (place old)) (sym (own_field_lists a cs t n m))) w
+    adds_same _ _ old new (if_true (list_all is_octet cs) (Per.counted al (Per.octet_units cs)) (place old) (are_octets cs m) ∙
+    ap (λ us. field_list_at (Per.counted al us) (place old)) (sym (own_field_lists a cs t n m))) w

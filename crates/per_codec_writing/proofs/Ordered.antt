@@ -1,5 +1,7 @@
 -- Field-lists in the order of their complete encodings are those in the order of the octets of these.
-use Rattle.std.proofs.Common.{◌≡◌, ℕ, zero, suc, ◌+◌, ◌<◌, Bool, true, false, cond, ltb, List, [], ◌∷◌, ◌++◌, length, map, take, drop, get_or, Option, Some, option_map, option_and_then, refl, ap, subst, sym, ◌∙◌, add-one, arith}
+use Rattle.std.proofs.Common.{◌≡◌, ℕ, zero, suc, ◌+◌, ◌<◌, Bool, true, false, cond, ltb, List, [], ◌∷◌, ◌++◌, length}
+use Rattle.std.proofs.Common.{map, take, drop, get_or, Option, Some, option_map, option_and_then, refl, ap, subst, sym}
+use Rattle.std.proofs.Common.{◌∙◌, add-one, arith}
 use Rattle.std.specs.Prelude.{⊤}
 use Rattle.std.proofs.lemmas.List.{length-drop, drop_more, take_more, map-append}
 use Rattle.asn1_model.specs.Form.{written, ascending, with_keys, put_in_place, stands_before, given}
@@ -14,7 +16,7 @@ use Rattle.per_codec_packing.specs.FieldLists.{FieldList, field_list_at, as_form
 use Rattle.per_codec_packing.specs.Viewed.{field_list_of}
 use Rattle.per_codec_packing.specs.declared.field_list_view.FieldListView.{FieldListView}
 use Rattle.per_codec_writing.specs.Keys.{AreKeyed}
-use Rattle.per_codec_writing.specs.Members.{forms, forms_of}
+use Rattle.per_codec_writing.specs.Members.{forms, view_forms}
 
 abbrev by_bits : List Bool → List Bool → Bool
 by_bits = stands_before Per.bit_less
@@ -57,7 +59,8 @@ module _ (ts : List FieldList) where
       ap (λ b. cond b (turned d ∷ put_in_place by_bits (turned e) (map turned es)) (turned e ∷ turned d ∷ map turned es)) (ordered_as_bits d.0 e.0 k.0 h)
       ∙ go (by_octets d.0 e.0) (put_turned e es h k.2)
     where
-      go : (b : Bool) → put_in_place by_bits (turned e) (map turned es) ≡ map turned (put_in_place by_octets e es) → cond b (turned d ∷ put_in_place by_bits (turned e) (map turned es)) (turned e ∷ turned d ∷ map turned es) ≡ map turned (cond b (d ∷ put_in_place by_octets e es) (e ∷ d ∷ es))
+      go : (b : Bool) → put_in_place by_bits (turned e) (map turned es) ≡ map turned (put_in_place by_octets e es) →
+          cond b (turned d ∷ put_in_place by_bits (turned e) (map turned es)) (turned e ∷ turned d ∷ map turned es) ≡ map turned (cond b (d ∷ put_in_place by_octets e es) (e ∷ d ∷ es))
       go true i = ap (λ l. turned d ∷ l) i
       go false i = refl
 
@@ -137,7 +140,7 @@ module _ (ts : List FieldList) where
     pub entries_within : AreWithin ts entries
     entries_within = subst (AreWithin ts) sorted (last_within all.held all.sound)
 
-    pub in_order_of_bits : (vs : List FieldListView) → forms_of vs ≡ map form_at entries → ascending key by_bits (forms ts) ≡ Some (forms_of vs)
+    pub in_order_of_bits : (vs : List FieldListView) → view_forms vs ≡ map form_at entries → ascending key by_bits (forms ts) ≡ Some (view_forms vs)
     in_order_of_bits vs e =
         ap (option_map (map (λ (e : List Bool × Per.BitForm). e.1))) all.keyed ∙ ap Some (last_turned all.held ∙ ap (map form_at) sorted ∙ sym e)
 
@@ -147,18 +150,20 @@ within_at ts (f ∷ es) zero e d h l q = subst (λ (x : Entry). x.index < length
 within_at ts (f ∷ es) (suc k) e d h l q = within_at ts es k e d h.1 (omega arith) q
 
 -- one more view of the field-lists of entries
-pub next_of : (ts : List FieldList) (es : List Entry) (vs more : List FieldListView) (k : ℕ) (e d : Entry) (v : FieldListView) → k < length es → forms_of vs ≡ map (form_at ts) (take k es) → e ≡ get_or es k d → field_list_of v ≡ get_or ts e.index [] → more ≡ vs ++ v ∷ [] → forms_of more ≡ map (form_at ts) (take (k + 1) es)
+pub next_of : (ts : List FieldList) (es : List Entry) (vs more : List FieldListView) (k : ℕ) (e d : Entry) (v : FieldListView) → k < length es →
+    view_forms vs ≡ map (form_at ts) (take k es) → e ≡ get_or es k d → field_list_of v ≡ get_or ts e.index [] → more ≡ vs ++ v ∷ [] → view_forms more ≡ map (form_at ts) (take (k + 1) es)
 next_of ts es vs more k e d v l h q t f =
-    ap forms_of f ∙ map-append (λ u. as_form (field_list_of u)) vs (v ∷ [])
+    ap view_forms f ∙ map-append (λ u. as_form (field_list_of u)) vs (v ∷ [])
     ∙ ap (λ us. us ++ as_form (field_list_of v) ∷ []) h ∙ ap (λ u. map (form_at ts) (take k es) ++ as_form u ∷ []) t
     ∙ sym (map-append (form_at ts) (take k es) (e ∷ []))
     ∙ ap (map (form_at ts)) (ap (λ x. take k es ++ x ∷ []) q ∙ sym (take_more es k d l))
 
-pub length-members : (vs : List FieldListView) → length (forms_of vs) ≡ length vs
+pub length-members : (vs : List FieldListView) → length (view_forms vs) ≡ length vs
 length-members [] = refl
 length-members (v ∷ vs) = ap suc (length-members vs)
 
 -- the field-list of a bag is that of the list of its elements in order
-pub bag_field_list : (ts : List FieldList) (vs : List FieldListView) (f : List Per.BitForm → Per.BitForm) (q : Option ℕ) → ascending (λ x. written (Per.complete x) 0) (stands_before Per.bit_less) (forms ts) ≡ Some (forms_of vs) → field_list_at (Per.in_any_order (forms ts) f) q ≡ field_list_at (f (forms_of vs)) q
+pub bag_field_list : (ts : List FieldList) (vs : List FieldListView) (f : List Per.BitForm → Per.BitForm) (q : Option ℕ) →
+    ascending (λ x. written (Per.complete x) 0) (stands_before Per.bit_less) (forms ts) ≡ Some (view_forms vs) → field_list_at (Per.in_any_order (forms ts) f) q ≡ field_list_at (f (view_forms vs)) q
 unfolding field_list_at Per.in_any_order
 bag_field_list ts vs f q e = ap (λ o. field_list_at (given o f) q) e

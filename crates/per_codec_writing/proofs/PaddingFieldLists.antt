@@ -34,16 +34,19 @@ pub plus_nothing : (p : Packed) → plus p (padding_if false (place p)) ≡ p
 plus_nothing p = ap (λ t. let q : Packed = record { field_list = t; placed = p.placed } in q) (append-nil p.field_list)
 
 -- an octet-aligned form, after padding
-pub adds_at_octet : (al : Bool) (x : Per.BitForm) (old mid new : Packed) → mid ≡ plus old (padding_if al (place old)) → Adds (field_list_at x (place mid)) mid new → Adds (field_list_at (Per.at_octet al x) (place old)) old new
+pub adds_at_octet : (al : Bool) (x : Per.BitForm) (old mid new : Packed) → mid ≡ plus old (padding_if al (place old)) →
+    Adds (field_list_at x (place mid)) mid new → Adds (field_list_at (Per.at_octet al x) (place old)) old new
 unfolding Per.at_octet
 adds_at_octet false x old mid new e a = subst (λ m. Adds (field_list_at x (place m)) m new) (e ∙ plus_nothing old) a
 adds_at_octet true x old mid new e a = adds_both (placed (λ p. Per.padding (missing p))) x old mid new (adds_padding old mid e) a
 
-pub none_at_octet : (al : Bool) (x : Per.BitForm) (old mid : Packed) → mid ≡ plus old (padding_if al (place old)) → field_list_at x (place mid) ≡ None → field_list_at (Per.at_octet al x) (place old) ≡ None
+pub none_at_octet : (al : Bool) (x : Per.BitForm) (old mid : Packed) → mid ≡ plus old (padding_if al (place old)) →
+    field_list_at x (place mid) ≡ None → field_list_at (Per.at_octet al x) (place old) ≡ None
 unfolding Per.at_octet
 none_at_octet false x old mid e a = subst (λ m. field_list_at x (place m) ≡ None) (e ∙ plus_nothing old) a
 none_at_octet true x old mid e a = none_second (placed (λ p. Per.padding (missing p))) x old mid (adds_padding old mid e) a
 
 -- these bits, octet-aligned
-pub adds_bits_at_octet : (al : Bool) (bits : List Bool) (old mid new : Packed) → mid ≡ plus old (padding_if al (place old)) → new ≡ plus mid (as_field_list bits) → Adds (field_list_at (Per.at_octet al (exactly bits)) (place old)) old new
+pub adds_bits_at_octet : (al : Bool) (bits : List Bool) (old mid new : Packed) → mid ≡ plus old (padding_if al (place old)) →
+    new ≡ plus mid (as_field_list bits) → Adds (field_list_at (Per.at_octet al (exactly bits)) (place old)) old new
 adds_bits_at_octet al bits old mid new e h = adds_at_octet al (exactly bits) old mid new e (adds_bits bits mid new h)

@@ -68,7 +68,10 @@ module _ (f : ℕ → Per.BitForm) (test : ℕ → Bool) (h : (c : ℕ) → test
   unfolding Per.fragments
   none_fragments al [] cs e p = none_second (Per.short_length al (length (map f cs))) (joined (map f cs)) (none_joined cs e) p
   none_fragments al (m ∷ ms) cs e p =
-      none_if (leb 1 m && leb m 4 && leb (m * 16384) (length (map f cs))) _ (none_second (Per.at_octet al (exactly (true ∷ true ∷ binary 6 m))) (both (joined (take (m * 16384) (map f cs))) (Per.fragments al ms (drop (m * 16384) (map f cs)))) (none_parts (Per.fragments al ms (drop (m * 16384) (map f cs))) (m * 16384) cs e (λ k. rw drop-map (none_fragments al ms (drop (m * 16384) cs) k)))) p
+      none_if (leb 1 m && leb m 4 && leb (m * 16384) (length (map f cs))) _
+      (none_second (Per.at_octet al (exactly (true ∷ true ∷ binary 6 m)))
+      (both (joined (take (m * 16384) (map f cs))) (Per.fragments al ms (drop (m * 16384) (map f cs))))
+      (none_parts (Per.fragments al ms (drop (m * 16384) (map f cs))) (m * 16384) cs e (λ k. rw drop-map (none_fragments al ms (drop (m * 16384) cs) k)))) p
 
   none_counted : (al : Bool) (cs : List ℕ) → list_all test cs ≡ false → Never (Per.counted al (map f cs))
   unfolding Per.counted field_list_at

@@ -35,8 +35,8 @@ abbrev pub next_determinant : Bool → List ℕ → ℕ → Option ℕ → Optio
 next_determinant al [] n q = option_map (λ w. before_all n w) (field_list_at (Per.short_length al n) q)
 next_determinant al (m ∷ ms) n q =
     option_map (λ w. record { field_list = w; due = m * 16384; determinants = Some (ms, n - m * 16384) })
-    (field_list_at (only_if (leb 1 m && leb m 4 && leb (m * 16384) n) (Per.at_octet al (exactly (true ∷ true ∷ binary 6 m))))
-    q)
+    (field_list_at
+    (only_if (leb 1 m && leb m 4 && leb (m * 16384) n) (Per.at_octet al (exactly (true ∷ true ∷ binary 6 m)))) q)
 
 -- The first general length determinant of `n` units, the largest fragments first.
 abbrev pub general : Bool → ℕ → Option ℕ → Option Heading
@@ -66,7 +66,8 @@ sized_count al c high has_padding n q = count_up_to al c.low has_padding n q (be
 -- A heading after a bit.
 abbrev pub behind_bit : Bool → (Option ℕ → Option Heading) → Option ℕ → Option Heading
 behind_bit b f q =
-    option_map (λ (h : Heading). record { field_list = bit b ∷ h.field_list; due = h.due; determinants = h.determinants })
+    option_map
+    (λ (h : Heading). record { field_list = bit b ∷ h.field_list; due = h.due; determinants = h.determinants })
     (f (moved q 1))
 
 -- Within the root or, after an extension bit, outside (X.691 16.6, 17.3, 20.4 and 30.4).

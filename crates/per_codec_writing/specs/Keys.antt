@@ -1,4 +1,4 @@
--- Field-lists with their complete encodings.
+-- The complete encodings of field-lists (X.691 11.1), by which the elements of a SET OF are put in order (22).
 use Rattle.std.specs.Prelude.{◌≡◌, ℕ, ⊤, true, List, [], ◌∷◌, ◌++◌, Some}
 use Rattle.asn1_model.specs.Form.{written}
 use Rattle.asn1_model.specs.Numbers.{octet_bits}

@@ -3,5 +3,5 @@ pub mod Units
 pub mod Headings
 pub mod Members
 pub mod Keys
-pub mod Places
+pub mod Indices
 pub mod Characters

@@ -1,4 +1,4 @@
--- Units by their field-lists, and units under a size constraint.
+-- Units as forms, each of its field-list, and units under a size constraint (X.691 11.9, 16, 17 and 30).
 use Rattle.std.specs.Prelude.{Bool, List, length, map, flat_map}
 use Rattle.asn1_model.specs.Form.{exactly}
 use Rattle.asn1_model.specs.Numbers.{is_count_within}
@@ -10,8 +10,8 @@ abbrev pub together : List (List Bool) → List Bool
 together ts = flat_map (λ t. t) ts
 
 -- Units as forms: each has exactly its field-list.
-abbrev pub forms_of : List (List Bool) → List Per.BitForm
-forms_of ts = map (λ t. exactly t) ts
+abbrev pub unit_forms : List (List Bool) → List Per.BitForm
+unit_forms ts = map (λ t. exactly t) ts
 
 -- Units under a size constraint, and whether padding precedes them if their number is encoded by the bounds of the
 -- root.

@@ -11,7 +11,7 @@ ghost use Rattle.asn1_values_alphabets.specs.Permitted.{permits_all};
 ghost use Rattle.per_codec_alphabets.specs.Codes.{SameCharacters, has_code, text_of};
 ghost use Rattle.per_codec_packing.specs.FieldLists.{field_list_at};
 ghost use Rattle.per_codec_writing.specs.Characters.{low_bits, field_lists_of};
-ghost use Rattle.per_codec_writing.specs.Units.{forms_of};
+ghost use Rattle.per_codec_writing.specs.Units.{unit_forms};
 ghost use Rattle.per_codec_writing.specs.Writing.{Adds, Refuses, place};
 ghost use Rattle.per_codec_rules.specs.Variants.{is_aligned};
 
@@ -94,10 +94,10 @@ fn push_based<S: StaticPermittedAlphabet>(
         → text_of units.now.alphabet.now c ≡ low_bits base units.now.alphabet.now.code_bits c }
     ensures { MatchResult result (λ _. Adds
         (field_list_at (sized (is_aligned variant) (size_of sizes) any_count (λ _. has_padding)
-        (forms_of (field_lists_of units.now.alphabet.now (S.characters units.now.string.now))))
+        (unit_forms (field_lists_of units.now.alphabet.now (S.characters units.now.string.now))))
         (place output.old)) output.old output.new)
         (Refuses (field_list_at (sized (is_aligned variant) (size_of sizes) any_count (λ _. has_padding)
-        (forms_of (field_lists_of units.now.alphabet.now (S.characters units.now.string.now))))
+        (unit_forms (field_lists_of units.now.alphabet.now (S.characters units.now.string.now))))
         (place output.old))) }
 {
     if let Some(octets) = units.octets() {
@@ -124,10 +124,10 @@ fn push_coded<S: StaticPermittedAlphabet>(
     requires { list_all (has_code units.now.alphabet.now) (S.characters units.now.string.now) ≡ true }
     ensures { MatchResult result (λ _. Adds
         (field_list_at (sized (is_aligned variant) (size_of sizes) any_count (λ _. has_padding)
-        (forms_of (field_lists_of units.now.alphabet.now (S.characters units.now.string.now))))
+        (unit_forms (field_lists_of units.now.alphabet.now (S.characters units.now.string.now))))
         (place output.old)) output.old output.new)
         (Refuses (field_list_at (sized (is_aligned variant) (size_of sizes) any_count (λ _. has_padding)
-        (forms_of (field_lists_of units.now.alphabet.now (S.characters units.now.string.now))))
+        (unit_forms (field_lists_of units.now.alphabet.now (S.characters units.now.string.now))))
         (place output.old))) }
 {
     if let Some(base) = units.base() {

@@ -3,7 +3,7 @@ ghost use Rattle.std.specs.Prelude.{◌≡◌, ◌≤◌, ℕ, true, IfSome};
 ghost use Rattle.std.specs.List.{list_all};
 ghost use Rattle.per_codec_alphabets.specs.Codes.{code_in, code_of, has_code, text_of};
 ghost use Rattle.per_codec_writing.specs.Characters.{low_bits, field_lists_of};
-ghost use Rattle.per_codec_writing.specs.Units.{forms_of};
+ghost use Rattle.per_codec_writing.specs.Units.{unit_forms};
 
 use crate::Units;
 use asn1_schema_errors::EncodeError;
@@ -82,7 +82,7 @@ impl<S: StaticPermittedAlphabet> CharacterUnits<'_, S> {
 }
 
 impl<S: StaticPermittedAlphabet> Units for CharacterUnits<'_, S> {
-    ghost forms = { λ units. forms_of (field_lists_of units.alphabet.now (S.characters units.string.now)) };
+    ghost forms = { λ units. unit_forms (field_lists_of units.alphabet.now (S.characters units.string.now)) };
 
     fn count(&self) -> usize {
         self.string.char_count()

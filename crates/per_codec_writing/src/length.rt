@@ -1,4 +1,4 @@
-//! General length determinants (X.691 11.9.3.5 to 11.9.3.8).
+//! General length determinants, octet-aligned in the aligned variant (X.691 11.9.3.5 to 11.9.3.8).
 ghost use Rattle.std.specs.Prelude.{◌≡◌, ◌∷◌, ◌<◌, ◌≤◌, true, IfOk, MatchResult};
 ghost use Rattle.asn1_model.specs.Form.{exactly};
 ghost use Rattle.asn1_model.specs.Numbers.{binary};

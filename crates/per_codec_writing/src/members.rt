@@ -8,7 +8,7 @@ ghost use Rattle.per_codec_packing.specs.FieldLists.{field_list_at};
 ghost use Rattle.per_codec_writing.specs.Writing.{Adds, place};
 ghost use Rattle.per_codec_packing.specs.Viewed.{field_list_of};
 ghost use Rattle.per_codec_writing.specs.Keys.{AddsKey, AreKeyed};
-ghost use Rattle.per_codec_writing.specs.Members.{forms, forms_of};
+ghost use Rattle.per_codec_writing.specs.Members.{forms, view_forms};
 
 use asn1_schema_errors::EncodeError;
 use asn1_schema_order::Encodings;
@@ -60,7 +60,7 @@ pub(crate) fn in_order(
     members: &FieldLists,
 ) -> Result<Vec<FieldListView<'_>>, AllocError>
     ensures { IfOk result (λ ordered. ascending (λ x. written (complete x) 0) (stands_before bit_less)
-        (forms members.now) ≡ Some (forms_of ordered.items)) }
+        (forms members.now) ≡ Some (view_forms ordered.items)) }
 {
     let encodings = encodings_of(alloc, members)?;
     let entries = encodings.in_order(alloc)?;
@@ -77,7 +77,7 @@ pub(crate) fn push_each(
     members: &[FieldListView<'_>],
 ) -> Result<(), EncodeError>
     ensures { MatchResult result (λ _. Adds
-        (field_list_at (joined (forms_of members.now)) (place output.old)) output.old output.new)
+        (field_list_at (joined (view_forms members.now)) (place output.old)) output.old output.new)
         (λ e. e ≡ EncodeError.OutOfMemory) }
 {
     for member in members {

@@ -3,7 +3,7 @@ ghost use Rattle.std.specs.Prelude.{◌≡◌, ◌≤◌, flat_map, length, map,
 ghost use Rattle.asn1_model.specs.Numbers.{binary};
 ghost use Rattle.per_codec_writing.specs.Characters.{low_bits};
 ghost use Rattle.per_codec_packing.specs.FieldLists.{as_field_list};
-ghost use Rattle.per_codec_writing.specs.Units.{forms_of};
+ghost use Rattle.per_codec_writing.specs.Units.{unit_forms};
 ghost use Rattle.per_codec_writing.specs.Writing.{plus};
 
 use crate::Units;
@@ -65,7 +65,7 @@ fn push_low_bits(
 }
 
 impl Units for NumberUnits<'_> {
-    ghost forms = { λ units. forms_of (map (low_bits units.base units.width) units.octets.now) };
+    ghost forms = { λ units. unit_forms (map (low_bits units.base units.width) units.octets.now) };
 
     fn count(&self) -> usize {
         self.octets.len()

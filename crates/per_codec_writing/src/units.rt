@@ -4,7 +4,7 @@ ghost use Rattle.asn1_model.specs.Form.{joined};
 ghost use Rattle.asn1_model.specs.Per.{BitForm, bit_units, octet_units};
 ghost use Rattle.asn1_values_bits.specs.BitStr.{bits_of};
 ghost use Rattle.per_codec_packing.specs.FieldLists.{field_list_at};
-ghost use Rattle.per_codec_writing.specs.Members.{forms_of};
+ghost use Rattle.per_codec_writing.specs.Members.{view_forms};
 ghost use Rattle.per_codec_writing.specs.Writing.{Adds, place};
 
 use crate::members::push_each;
@@ -63,7 +63,7 @@ impl Units for BitStr<'_> {
 
 /// Elements of a bag, already in order.
 impl Units for &[FieldListView<'_>] {
-    ghost forms = { λ members. forms_of members.now };
+    ghost forms = { λ members. view_forms members.now };
 
     fn count(&self) -> usize {
         self.len()

@@ -19,19 +19,23 @@ by_oer : (s : Schema) (v : Value) (w : List ℕ) → IsEncoding oer s v w → is
 unfolding IsEncoding
 by_oer s v w r h n = octets_not_read lenient (Oer.form s v) w h n r.1
 
-by_uper : (s : Schema) (v : Value) (w : List ℕ) → IsEncoding uper s v w → is_plain lenient (Per.message false s v) 0 ≡ true → is_text same_truth (written (Per.message false s v) 0) (octet_bits w) ≡ false → ⊥
+by_uper : (s : Schema) (v : Value) (w : List ℕ) → IsEncoding uper s v w → is_plain lenient (Per.message false s v) 0 ≡ true →
+    is_text same_truth (written (Per.message false s v) 0) (octet_bits w) ≡ false → ⊥
 unfolding IsEncoding
 by_uper s v w r h n = bits_not_read lenient (Per.message false s v) (octet_bits w) h n r.1
 
-by_aper : (s : Schema) (v : Value) (w : List ℕ) → IsEncoding aper s v w → is_plain lenient (Per.message true s v) 0 ≡ true → is_text same_truth (written (Per.message true s v) 0) (octet_bits w) ≡ false → ⊥
+by_aper : (s : Schema) (v : Value) (w : List ℕ) → IsEncoding aper s v w → is_plain lenient (Per.message true s v) 0 ≡ true →
+    is_text same_truth (written (Per.message true s v) 0) (octet_bits w) ≡ false → ⊥
 unfolding IsEncoding
 by_aper s v w r h n = bits_not_read lenient (Per.message true s v) (octet_bits w) h n r.1
 
-by_uper_strict : (s : Schema) (v : Value) (w : List ℕ) → IsEncoding uper_strict s v w → is_plain strict_per (Per.message false s v) 0 ≡ true → is_text same_truth (written (Per.message false s v) 0) (octet_bits w) ≡ false → ⊥
+by_uper_strict : (s : Schema) (v : Value) (w : List ℕ) → IsEncoding uper_strict s v w → is_plain strict_per (Per.message false s v) 0 ≡ true →
+    is_text same_truth (written (Per.message false s v) 0) (octet_bits w) ≡ false → ⊥
 unfolding IsEncoding
 by_uper_strict s v w r h n = bits_not_read strict_per (Per.message false s v) (octet_bits w) h n r.1
 
-by_aper_strict : (s : Schema) (v : Value) (w : List ℕ) → IsEncoding aper_strict s v w → is_plain strict_per (Per.message true s v) 0 ≡ true → is_text same_truth (written (Per.message true s v) 0) (octet_bits w) ≡ false → ⊥
+by_aper_strict : (s : Schema) (v : Value) (w : List ℕ) → IsEncoding aper_strict s v w → is_plain strict_per (Per.message true s v) 0 ≡ true →
+    is_text same_truth (written (Per.message true s v) 0) (octet_bits w) ≡ false → ⊥
 unfolding IsEncoding
 by_aper_strict s v w r h n = bits_not_read strict_per (Per.message true s v) (octet_bits w) h n r.1
 

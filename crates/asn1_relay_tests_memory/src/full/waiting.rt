@@ -1,4 +1,4 @@
-//! A relay that knows how many octets it lacks does not try the message in front before they are there.
+//! A relay that knows how many octets it lacks does not read the message again before they have come.
 use crate::full::memory::{is_taken, take_memory};
 use asn1_relay_core::{Codec, Relay, RelayFault, RelayFaultKind};
 use std::alloc::Global;
@@ -6,13 +6,13 @@ use std::alloc::Global;
 /// How many octets a message may have.
 const LIMIT: usize = 4096;
 
-/// Nine octets of a SEQUENCE OF INTEGER (0..255) in COER, which has this number of members.
+/// Nine octets of a SEQUENCE OF INTEGER (0..255) in COER, which has this number of elements.
 fn first_octets(members: u8) -> [u8; 9] {
     [0x01, members, 1, 2, 3, 4, 5, 6, 7]
 }
 
-/// What a relay answers to one octet more with all memory taken, behind nine octets of a list of this number of
-/// members.
+/// What a relay answers to one octet more with all memory taken, after nine octets of a list of this number of
+/// elements.
 fn fed_without_memory(alloc: Global, members: u8) -> Option<Result<(), RelayFault>> {
     let mut out = Vec::with_capacity(alloc, LIMIT).ok()?;
     let mut relay = Relay::<Vec<u8>>::new(alloc, Codec::Coer, Codec::Uper, LIMIT);

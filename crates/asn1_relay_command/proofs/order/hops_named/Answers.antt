@@ -10,7 +10,8 @@ returns-in-None c = no_hop c.args.names.now c.loop-name.name-index c.loop-name.h
 
 pub loop-name-preserved : goal.loop-name-preserved
 loop-name-preserved c =
-    one_more_hop c.args.names.now c.loop-name.name-index c.loop-name.hops.items c.loop-name.invariant _ (omega arith) c.in-Some.hop c.push.new.self.items c.in-Some.ensures c.in_ok-push-in-Some.ensures.items
+    one_more_hop c.args.names.now c.loop-name.name-index c.loop-name.hops.items c.loop-name.invariant _ (omega arith) c.in-Some.hop
+    c.push.new.self.items c.in-Some.ensures c.in_ok-push-in-Some.ensures.items
 
 pub returns : goal.returns
 returns c = all_hops c.args.names.now c.loop-name.name-index c.loop-name.hops.items c.loop-name.invariant (omega arith)

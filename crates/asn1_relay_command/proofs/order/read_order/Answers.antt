@@ -13,8 +13,10 @@ returns-in_err-matches-clause-bad g c =
 
 pub returns-in-Some-clause-ok : goal.returns-in-Some-clause-ok
 returns-in-Some-clause-ok g c =
-    words_ask (app_of c.in_ok-grammar.grammar) (map g.S.AsStr.text c.args.words.now) c.in_ok-matches.matches _ c.in_ok-grammar.ensures (c.in_ok-matches.ensures.ok).2 c.in_ok-matches.ensures.kinds (ap (option_map task_of) (sym c.in-Some.is) ∙ c.in_ok-order.ensures.task)
+    words_ask (app_of c.in_ok-grammar.grammar) (map g.S.AsStr.text c.args.words.now) c.in_ok-matches.matches _ c.in_ok-grammar.ensures
+    (c.in_ok-matches.ensures.ok).2 c.in_ok-matches.ensures.kinds (ap (option_map task_of) (sym c.in-Some.is) ∙ c.in_ok-order.ensures.task)
 
 pub returns-clause-bad : goal.returns-clause-bad
 returns-clause-bad g c =
-    inl (words_ask (app_of c.in_ok-grammar.grammar) (map g.S.AsStr.text c.args.words.now) c.in_ok-matches.matches _ c.in_ok-grammar.ensures (c.in_ok-matches.ensures.ok).2 c.in_ok-matches.ensures.kinds (ap (option_map task_of) (sym c.in-None.is) ∙ c.in_ok-order.ensures.task))
+    inl (words_ask (app_of c.in_ok-grammar.grammar) (map g.S.AsStr.text c.args.words.now) c.in_ok-matches.matches _ c.in_ok-grammar.ensures
+    (c.in_ok-matches.ensures.ok).2 c.in_ok-matches.ensures.kinds (ap (option_map task_of) (sym c.in-None.is) ∙ c.in_ok-order.ensures.task))

@@ -18,4 +18,5 @@ returns g c =
     let right : IsAnswered c.args.translation unread unread' (answered octets) = record { message = message; read = c.in_ok-message.ensures.ok; answers = answers } in
     let ok = subst (λ l. OnOk c.write_all.result (Appends held held' l)) c.as_slice-2.ensures.value c.write_all.ensures.ok in
     let begun = subst (BeginsToAppend held held') c.as_slice-2.ensures.value c.write_all.ensures.begins in
-    answer_written (IsTranslated c.args.translation unread unread') (StopsOnceBy c.args.translation unread unread' held held') held held' octets c.write_all.result right ok c.write_all.ensures.err begun (λ cut. cut)
+    answer_written (IsTranslated c.args.translation unread unread') (StopsOnceBy c.args.translation unread unread' held held') held held' octets
+    c.write_all.result right ok c.write_all.ensures.err begun (λ cut. cut)

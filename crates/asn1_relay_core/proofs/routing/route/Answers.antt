@@ -10,7 +10,9 @@ pub returns-in_err-octets-clause-right : goal.returns-in_err-octets-clause-right
 returns-in_err-octets-clause-right g c =
     let old = g.Old.Described.schema 128 in
     let new = g.New.Described.schema 128 in
-    refused_there old new c.args.from c.args.hops.now c.args.input.now c.args.from c.args.input.now 0 (some_hop c.args.hops.now c.requires) (nothing_passed old new c.args.from c.args.hops.now c.args.input.now) c.args.input.now refl c.from_residual.result c.in_err-octets.field-0.0 c.from_residual.ensures.1 c.in_err-octets.ensures.named c.in_err-octets.ensures.right
+    refused_there old new c.args.from c.args.hops.now c.args.input.now c.args.from c.args.input.now 0 (some_hop c.args.hops.now c.requires)
+    (nothing_passed old new c.args.from c.args.hops.now c.args.input.now) c.args.input.now refl c.from_residual.result c.in_err-octets.field-0.0
+    c.from_residual.ensures.1 c.in_err-octets.ensures.named c.in_err-octets.ensures.right
 
 pub returns-in_err-octets-clause-exact : goal.returns-in_err-octets-clause-exact
 returns-in_err-octets-clause-exact g c =
@@ -25,20 +27,25 @@ returns-in_err-octets-clause-told g c = λ n v h.
     let k = g.Old.Described.typed.lawful in
     let l = g.New.Described.typed.lawful in
     let x = g.met.New.Extends in
-    is_told g.Old.Described.schema g.New.Described.schema k l g.Old.Described.typed.tidy g.New.Described.typed.tidy x.extends x.old_unfolds x.unfolds (rules_of c.args.from) (hops_of c.args.hops.now) c.args.input.now (some_model_hop c.args.hops.now c.requires) n v h (outcome_of c.from_residual.result) (returns-in_err-octets-clause-right g c)
+    is_told g.Old.Described.schema g.New.Described.schema k l g.Old.Described.typed.tidy g.New.Described.typed.tidy x.extends x.old_unfolds x.unfolds
+    (rules_of c.args.from) (hops_of c.args.hops.now) c.args.input.now (some_model_hop c.args.hops.now c.requires) n v h (outcome_of c.from_residual.result) (returns-in_err-octets-clause-right g c)
 
 pub returns-in_err-octets-clause-only_told : goal.returns-in_err-octets-clause-only_told
 returns-in_err-octets-clause-only_told g c = λ n v o h p.
     let k = g.Old.Described.typed.lawful in
     let l = g.New.Described.typed.lawful in
     let x = g.met.New.Extends in
-    only_told g.Old.Described.schema g.New.Described.schema k l g.Old.Described.typed.tidy g.New.Described.typed.tidy x.extends x.old_unfolds x.unfolds (rules_of c.args.from) (hops_of c.args.hops.now) c.args.input.now (some_model_hop c.args.hops.now c.requires) n v h (outcome_of c.from_residual.result) (returns-in_err-octets-clause-right g c) o p
+    only_told g.Old.Described.schema g.New.Described.schema k l g.Old.Described.typed.tidy g.New.Described.typed.tidy x.extends x.old_unfolds
+    x.unfolds (rules_of c.args.from) (hops_of c.args.hops.now) c.args.input.now (some_model_hop c.args.hops.now c.requires) n v h
+    (outcome_of c.from_residual.result) (returns-in_err-octets-clause-right g c) o p
 
 pub returns-in_err-octets-2-clause-right : goal.returns-in_err-octets-2-clause-right
 returns-in_err-octets-2-clause-right g c =
     let old = g.Old.Described.schema 128 in
     let new = g.New.Described.schema 128 in
-    refused_there old new c.args.from c.args.hops.now c.args.input.now c.loop-place.rules c.loop-place.octets.items c.loop-place.place c.loop-place-test.true c.loop-place.invariant.1 c.as_slice.result.now c.as_slice.ensures.value c.from_residual-in_err-octets-2.result c.in_err-octets-2.field-0.0 c.from_residual-in_err-octets-2.ensures.1 c.in_err-octets-2.ensures.named c.in_err-octets-2.ensures.right
+    refused_there old new c.args.from c.args.hops.now c.args.input.now c.loop-place.rules c.loop-place.octets.items c.loop-place.place
+    c.loop-place-test.true c.loop-place.invariant.1 c.as_slice.result.now c.as_slice.ensures.value c.from_residual-in_err-octets-2.result
+    c.in_err-octets-2.field-0.0 c.from_residual-in_err-octets-2.ensures.1 c.in_err-octets-2.ensures.named c.in_err-octets-2.ensures.right
 
 pub returns-in_err-octets-2-clause-exact : goal.returns-in_err-octets-2-clause-exact
 returns-in_err-octets-2-clause-exact g c =
@@ -53,27 +60,36 @@ returns-in_err-octets-2-clause-told g c = λ n v h.
     let k = g.Old.Described.typed.lawful in
     let l = g.New.Described.typed.lawful in
     let x = g.met.New.Extends in
-    is_told g.Old.Described.schema g.New.Described.schema k l g.Old.Described.typed.tidy g.New.Described.typed.tidy x.extends x.old_unfolds x.unfolds (rules_of c.args.from) (hops_of c.args.hops.now) c.args.input.now (some_model_hop c.args.hops.now c.requires) n v h (outcome_of c.from_residual-in_err-octets-2.result) (returns-in_err-octets-2-clause-right g c)
+    is_told g.Old.Described.schema g.New.Described.schema k l g.Old.Described.typed.tidy g.New.Described.typed.tidy x.extends x.old_unfolds x.unfolds
+    (rules_of c.args.from) (hops_of c.args.hops.now) c.args.input.now (some_model_hop c.args.hops.now c.requires) n v h
+    (outcome_of c.from_residual-in_err-octets-2.result) (returns-in_err-octets-2-clause-right g c)
 
 pub returns-in_err-octets-2-clause-only_told : goal.returns-in_err-octets-2-clause-only_told
 returns-in_err-octets-2-clause-only_told g c = λ n v o h p.
     let k = g.Old.Described.typed.lawful in
     let l = g.New.Described.typed.lawful in
     let x = g.met.New.Extends in
-    only_told g.Old.Described.schema g.New.Described.schema k l g.Old.Described.typed.tidy g.New.Described.typed.tidy x.extends x.old_unfolds x.unfolds (rules_of c.args.from) (hops_of c.args.hops.now) c.args.input.now (some_model_hop c.args.hops.now c.requires) n v h (outcome_of c.from_residual-in_err-octets-2.result) (returns-in_err-octets-2-clause-right g c) o p
+    only_told g.Old.Described.schema g.New.Described.schema k l g.Old.Described.typed.tidy g.New.Described.typed.tidy x.extends x.old_unfolds
+    x.unfolds (rules_of c.args.from) (hops_of c.args.hops.now) c.args.input.now (some_model_hop c.args.hops.now c.requires) n v h
+    (outcome_of c.from_residual-in_err-octets-2.result) (returns-in_err-octets-2-clause-right g c) o p
 
 pub returns-in_err-octets-2-clause-reached : goal.returns-in_err-octets-2-clause-reached
 returns-in_err-octets-2-clause-reached g c =
     let old = g.Old.Described.schema 128 in
     let new = g.New.Described.schema 128 in
-    raised _ _ _ c.from_residual-in_err-octets-2.ensures.1 (is_reached old new c.args.from c.args.hops.now c.args.input.now c.loop-place.rules c.loop-place.octets.items c.loop-place.place c.loop-place-test.true c.loop-place.invariant.1 c.as_slice.result.now c.as_slice.ensures.value c.in_err-octets-2.field-0.0 c.in_err-octets-2.ensures.named)
+    raised _ _ _ c.from_residual-in_err-octets-2.ensures.1 (is_reached old new c.args.from c.args.hops.now c.args.input.now c.loop-place.rules
+    c.loop-place.octets.items c.loop-place.place c.loop-place-test.true c.loop-place.invariant.1 c.as_slice.result.now c.as_slice.ensures.value
+    c.in_err-octets-2.field-0.0 c.in_err-octets-2.ensures.named)
 
 pub loop-place-preserved : goal.loop-place-preserved
 loop-place-preserved g c =
     let old = g.Old.Described.schema 128 in
     let new = g.New.Described.schema 128 in
-    let within : c.loop-place.place + 1 ≤ length c.args.hops.now = omega arith in
-    (within, next_passed old new c.args.from c.args.hops.now c.args.input.now c.loop-place.rules c.loop-place.octets.items c.loop-place.place c.loop-place-test.true c.loop-place.invariant.1 c.as_slice.result.now c.as_slice.ensures.value c.in_ok-octets-2.octets.items c.in_ok-octets-2.ensures.right)
+    let within : c.loop-place.place + 1 ≤ length c.args.hops.now = omega arith in (
+      within,
+      next_passed old new c.args.from c.args.hops.now c.args.input.now c.loop-place.rules c.loop-place.octets.items c.loop-place.place
+          c.loop-place-test.true c.loop-place.invariant.1 c.as_slice.result.now c.as_slice.ensures.value c.in_ok-octets-2.octets.items c.in_ok-octets-2.ensures.right,
+    )
 
 pub returns-clause-right : goal.returns-clause-right
 returns-clause-right g c =
@@ -94,11 +110,14 @@ returns-clause-told g c = λ n v h.
     let k = g.Old.Described.typed.lawful in
     let l = g.New.Described.typed.lawful in
     let x = g.met.New.Extends in
-    is_told g.Old.Described.schema g.New.Described.schema k l g.Old.Described.typed.tidy g.New.Described.typed.tidy x.extends x.old_unfolds x.unfolds (rules_of c.args.from) (hops_of c.args.hops.now) c.args.input.now (some_model_hop c.args.hops.now c.requires) n v h (Some (arrived c.loop-place.octets.items)) (returns-clause-right g c)
+    is_told g.Old.Described.schema g.New.Described.schema k l g.Old.Described.typed.tidy g.New.Described.typed.tidy x.extends x.old_unfolds x.unfolds
+    (rules_of c.args.from) (hops_of c.args.hops.now) c.args.input.now (some_model_hop c.args.hops.now c.requires) n v h (Some (arrived c.loop-place.octets.items)) (returns-clause-right g c)
 
 pub returns-clause-only_told : goal.returns-clause-only_told
 returns-clause-only_told g c = λ n v o h p.
     let k = g.Old.Described.typed.lawful in
     let l = g.New.Described.typed.lawful in
     let x = g.met.New.Extends in
-    only_told g.Old.Described.schema g.New.Described.schema k l g.Old.Described.typed.tidy g.New.Described.typed.tidy x.extends x.old_unfolds x.unfolds (rules_of c.args.from) (hops_of c.args.hops.now) c.args.input.now (some_model_hop c.args.hops.now c.requires) n v h (Some (arrived c.loop-place.octets.items)) (returns-clause-right g c) o p
+    only_told g.Old.Described.schema g.New.Described.schema k l g.Old.Described.typed.tidy g.New.Described.typed.tidy x.extends x.old_unfolds
+    x.unfolds (rules_of c.args.from) (hops_of c.args.hops.now) c.args.input.now (some_model_hop c.args.hops.now c.requires) n v h
+    (Some (arrived c.loop-place.octets.items)) (returns-clause-right g c) o p

@@ -23,7 +23,8 @@ loop-count-preserved g c =
     let next = ends (g.R.Source.coming c.read.new.self) (g.W.Sink.taken c.relay_block.new.writer) (g.R.Source.failures c.read.new.self) (g.W.Sink.failures c.relay_block.new.writer) in
     let octets = take c.in-Ok.count c.read.new.room in
     record {
-      so_far = run_further c.args.from c.args.to (g.T.Described.schema 128) c.args.limit old now c.loop-count.relay c.loop-count.invariant.so_far next c.relay_block.new.relay octets c.in-Ok.ensures.octets.0 c.in_ok-relay_block-in-Ok.ensures.ok c.in-Ok.ensures.counts c.in_ok-relay_block-in-Ok.ensures.counts;
+      so_far = run_further c.args.from c.args.to (g.T.Described.schema 128) c.args.limit old now c.loop-count.relay c.loop-count.invariant.so_far next
+          c.relay_block.new.relay octets c.in-Ok.ensures.octets.0 c.in_ok-relay_block-in-Ok.ensures.ok c.in-Ok.ensures.counts c.in_ok-relay_block-in-Ok.ensures.counts;
       reader_stays = c.in-Ok.ensures.stays ∙ c.loop-count.invariant.reader_stays;
       writer_stays = c.in_ok-relay_block-in-Ok.ensures.stays ∙ c.loop-count.invariant.writer_stays;
     }
@@ -36,7 +37,10 @@ returns-in_err-relay_block-in-Ok-clause-only g c =
     let octets = take c.in-Ok.count c.read.new.room in
     let l = length-take c.in-Ok.count c.read.new.room in
     let b = c.in-Ok.ensures.bound in
-    raised (RunFaultOf (rules_of c.args.from) (rules_of c.args.to) (g.T.Described.schema 128) c.args.limit old next) c.in_err-relay_block-in-Ok.field-0.0 c.from_residual.result c.from_residual.ensures.1 (run_block_failed c.args.from c.args.to (g.T.Described.schema 128) c.args.limit old now c.loop-count.relay c.loop-count.invariant.so_far next octets c.in_err-relay_block-in-Ok.field-0.0 (omega arith) c.in-Ok.ensures.octets.0 c.in-Ok.ensures.counts c.in_err-relay_block-in-Ok.ensures.only)
+    raised (RunFaultOf (rules_of c.args.from) (rules_of c.args.to) (g.T.Described.schema 128) c.args.limit old next)
+    c.in_err-relay_block-in-Ok.field-0.0 c.from_residual.result c.from_residual.ensures.1
+    (run_block_failed c.args.from c.args.to (g.T.Described.schema 128) c.args.limit old now c.loop-count.relay c.loop-count.invariant.so_far next
+    octets c.in_err-relay_block-in-Ok.field-0.0 (omega arith) c.in-Ok.ensures.octets.0 c.in-Ok.ensures.counts c.in_err-relay_block-in-Ok.ensures.only)
 
 pub returns-clause-only : goal.returns-clause-only
 returns-clause-only g c =
@@ -44,5 +48,7 @@ returns-clause-only g c =
     let now = ends (g.R.Source.coming c.loop-count.reader) (g.W.Sink.taken c.loop-count.writer) (g.R.Source.failures c.loop-count.reader) (g.W.Sink.failures c.loop-count.writer) in
     let next = ends (g.R.Source.coming c.read.new.self) (g.W.Sink.taken c.flush.new.self) (g.R.Source.failures c.read.new.self) (g.W.Sink.failures c.flush.new.self) in
     let z : c.in-Ok-eq0.field-0 ≡ 0 = omega arith in
-    let none : Consumes (g.R.Source.coming c.loop-count.reader) (g.R.Source.coming c.read.new.self) [] = subst (λ n. Consumes (g.R.Source.coming c.loop-count.reader) (g.R.Source.coming c.read.new.self) (take n c.read.new.room)) z c.in-Ok-eq0.ensures.octets.0 in
-    run_not_flushed c.args.from c.args.to (g.T.Described.schema 128) c.args.limit old now c.loop-count.relay c.loop-count.invariant.so_far next none (c.in-Ok-eq0.ensures.octets.1 z (omega arith)) c.in-Ok-eq0.ensures.counts c.flush.ensures.keeps c.in-Err-flush.ensures.counts
+    let none : Consumes (g.R.Source.coming c.loop-count.reader) (g.R.Source.coming c.read.new.self) [] =
+    subst (λ n. Consumes (g.R.Source.coming c.loop-count.reader) (g.R.Source.coming c.read.new.self) (take n c.read.new.room)) z c.in-Ok-eq0.ensures.octets.0 in
+    run_not_flushed c.args.from c.args.to (g.T.Described.schema 128) c.args.limit old now c.loop-count.relay c.loop-count.invariant.so_far next none
+    (c.in-Ok-eq0.ensures.octets.1 z (omega arith)) c.in-Ok-eq0.ensures.counts c.flush.ensures.keeps c.in-Err-flush.ensures.counts

@@ -16,13 +16,15 @@ loop-preserved g c =
       | in-Err w ↦ record {
         some = subst (λ k. k ≤ length c.args.octets.now) (sym w.count-is) c.loop.invariant.some;
         first = λ e. absurd (c.if-count-octets.false (none_left c.args.octets.now c.loop.count e c.loop.invariant.some));
-        took = subst (λ k. Appends (g.W.Write.contents c.args.writer.now) (g.W.Write.contents c.write.new.self) (take k c.args.octets.now)) (sym w.count-is) (Appends-kept _ _ _ _ c.loop.invariant.took w.in-Err.ensures.bytes);
+        took = subst (λ k. Appends (g.W.Write.contents c.args.writer.now) (g.W.Write.contents c.write.new.self) (take k c.args.octets.now))
+            (sym w.count-is) (Appends-kept _ _ _ _ c.loop.invariant.took w.in-Err.ensures.bytes);
       }
     ]
 
 pub returns-in-Ok-eq0-clause-begins : goal.returns-in-Ok-eq0-clause-begins
 returns-in-Ok-eq0-clause-begins g c =
-    let wrote = subst (λ r. WriteAppends (g.W.Write.contents c.loop.writer) (g.W.Write.contents c.write.new.self) r (take (length c.args.octets.now - c.loop.count) (drop c.loop.count c.args.octets.now))) c.in-Ok-eq0.is c.write.ensures.bytes in
+    let wrote = subst (λ r. WriteAppends (g.W.Write.contents c.loop.writer) (g.W.Write.contents c.write.new.self) r
+    (take (length c.args.octets.now - c.loop.count) (drop c.loop.count c.args.octets.now))) c.in-Ok-eq0.is c.write.ensures.bytes in
     begins_before _ _ _ c.args.octets.now _ c.loop.count c.in-Ok-eq0.field-0 c.in-Ok-eq0.field-0-test c.loop.invariant.took wrote
 
 pub returns-in-Err-2-clause-begins : goal.returns-in-Err-2-clause-begins

@@ -15,15 +15,15 @@ returns-then-is_full-clause-only g c = from_full g.met.D.Decoder.members_carried
 pub returns-in_err-item-clause-only : goal.returns-in_err-item-clause-only
 returns-in_err-item-clause-only g c = raised _ _ _ c.from_residual-in_err-item.ensures.1
     (from_stuck g.met.D.Decoder.members_carried g.met.D.Decoder.one_record _ (g.T.Described.typed.lawful _) c.loop-items.invariant.0
-    (rw c.if-branch.true at c.in_ok-get_further.ensures.ok) (rw (c.in_ok-get_further.ensures.level ∙ c.loop-items.invariant.1) at c.in_err-item.ensures.only))
+    (rw c.if-branch.true at c.in_ok-get_further.ensures.ok) (rw (c.in_ok-get_further.ensures.call.level ∙ c.loop-items.invariant.1) at c.in_err-item.ensures.only))
 
 pub loop-items-preserved : goal.loop-items-preserved
 loop-items-preserved g c =
-    let e = c.in_ok-get_further.ensures.level ∙ c.loop-items.invariant.1 in
+    let e = c.in_ok-get_further.ensures.call.level ∙ c.loop-items.invariant.1 in
     let law = g.met.D.Decoder.goes_on in (
       rw c.in-Ok.ensures.items (from_next g.met.D.Decoder.members_carried g.met.D.Decoder.one_record c.loop-items.invariant.0
           (rw c.if-branch.true at c.in_ok-get_further.ensures.ok) (rw e at c.in_ok-item.ensures.ok)),
-      c.in_ok-item.ensures.level
+      c.in_ok-item.ensures.call.level
           ∙ e,
       refl,
       λ f. absurd (law _ _ _ c.in_ok-get_further.ensures.ok (failed_reads law c.in_ok-item.ensures.ok f)),

@@ -13,7 +13,8 @@ abbrev pub decreases-TreeDecode::decode_with_tag_and_constraints : goal.decrease
 decreases-TreeDecode::decode_with_tag_and_constraints g l = g.D.Decoder.levels l.decoder.now * 2
 
 abbrev pub invariant-read_branches-loop-branches : goal.invariant-read_branches-loop-branches
-invariant-read_branches-loop-branches g l = ReadsFrom g.D.Decoder.step g.D.Decoder.too_few_members tree_schema (g.D.Decoder.levels l.initial.decoder) tree_meaning l.branches.items l.initial.decoder l.decoder × (g.D.Decoder.levels l.decoder ≡ g.D.Decoder.levels l.initial.decoder) × (g.D.Decoder.has_failed l.decoder → ⊥)
+invariant-read_branches-loop-branches g l = ReadsFrom g.D.Decoder.step g.D.Decoder.too_few_members tree_schema (g.D.Decoder.levels l.initial.decoder)
+    tree_meaning l.branches.items l.initial.decoder l.decoder × (g.D.Decoder.levels l.decoder ≡ g.D.Decoder.levels l.initial.decoder) × (g.D.Decoder.has_failed l.decoder → ⊥)
 
 abbrev pub decreases-read_branches-loop-branches : goal.decreases-read_branches-loop-branches
 decreases-read_branches-loop-branches g l = 2 ^ 64 - l.branches.len

@@ -1,6 +1,6 @@
 use Rattle.std.proofs.Common.{◌+◌, ◌-◌, ◌/◌, ◌<◌, take, ap, ◌∙◌, arith}
 use Rattle.std.proofs.lemmas.List.{take_all, length-take}
-use Rattle.asn1_schema_order.specs.Fronts.{leading}
+use Rattle.asn1_schema_order.specs.LeadingOctets.{leading}
 use Rattle.asn1_schema_order.proofs.Leading.{worth_next, with_next, room, octets_take, leading_front}
 use Rattle.asn1_schema_order.proofs.encodings.front_of.Goals as goal
 

@@ -1,5 +1,5 @@
 use Rattle.std.proofs.Common.{◌≡◌, ◌-◌, take}
-use Rattle.asn1_schema_order.specs.Fronts.{leading}
+use Rattle.asn1_schema_order.specs.LeadingOctets.{leading}
 use Rattle.asn1_schema_order.proofs.Leading.{worth}
 use Rattle.asn1_schema_order.proofs.encodings.front_of.Given as goal
 

@@ -34,4 +34,5 @@ loop-component-preserved c =
 
 pub returns : goal.returns
 returns c =
-    c.loop-component.invariant true (λ n. ap (λ xs. have_defaults (components_of (λ j. type_at c.args.nodes.now n j) xs)) (drop_all c.loop-component.component-index c.args.components.now (omega (arith, c.loop-component-test.false))))
+    c.loop-component.invariant true (λ n. ap (λ xs. have_defaults (components_of (λ j. type_at c.args.nodes.now n j) xs))
+    (drop_all c.loop-component.component-index c.args.components.now (omega (arith, c.loop-component-test.false))))

@@ -9,7 +9,8 @@ pub returns-in-Sequence : goal.returns-in-Sequence
 returns-in-Sequence c =
     let ns = c.args.nodes.now in
     decides_by _ (λ n. has_defaults (type_of ns n (Some (Sequence c.in-Sequence.table)))) c.are_both_right.result (λ n. ap (λ x. has_defaults (type_of ns n (Some x))) c.in-Sequence.is)
-    (decides_below _ (λ n. have_defaults (components_of (λ j. type_at ns n j) c.as_slice.result.now) && have_defaults (components_of (λ j. type_at ns n j) c.as_slice-in-Sequence.result.now)) c.are_both_right.result refl
+    (decides_below _ (λ n. have_defaults (components_of (λ j. type_at ns n j) c.as_slice.result.now) &&
+    have_defaults (components_of (λ j. type_at ns n j) c.as_slice-in-Sequence.result.now)) c.are_both_right.result refl
     (λ n. ap (λ xs. have_defaults (components_of (λ j. type_at ns n j) xs) && have_defaults (components_of (λ j. type_at ns n j) c.in-Sequence.table.additions.items)) (sym c.as_slice.ensures.value)
     ∙ ap (λ xs. have_defaults (components_of (λ j. type_at ns n j) c.as_slice.result.now) && have_defaults (components_of (λ j. type_at ns n j) xs)) (sym c.as_slice-in-Sequence.ensures.value))
     c.are_both_right.ensures)
@@ -18,7 +19,8 @@ pub returns-in-Set : goal.returns-in-Set
 returns-in-Set c =
     let ns = c.args.nodes.now in
     decides_by _ (λ n. has_defaults (type_of ns n (Some (Set c.in-Set.table)))) c.are_both_right-in-Set.result (λ n. ap (λ x. has_defaults (type_of ns n (Some x))) c.in-Set.is)
-    (decides_below _ (λ n. have_defaults (components_of (λ j. type_at ns n j) c.as_slice-in-Set.result.now) && have_defaults (components_of (λ j. type_at ns n j) c.as_slice-in-Set-2.result.now)) c.are_both_right-in-Set.result refl
+    (decides_below _ (λ n. have_defaults (components_of (λ j. type_at ns n j) c.as_slice-in-Set.result.now) &&
+    have_defaults (components_of (λ j. type_at ns n j) c.as_slice-in-Set-2.result.now)) c.are_both_right-in-Set.result refl
     (λ n. ap (λ xs. have_defaults (components_of (λ j. type_at ns n j) xs) && have_defaults (components_of (λ j. type_at ns n j) c.in-Set.table.additions.items)) (sym c.as_slice-in-Set.ensures.value)
     ∙ ap (λ xs. have_defaults (components_of (λ j. type_at ns n j) c.as_slice-in-Set.result.now) && have_defaults (components_of (λ j. type_at ns n j) xs)) (sym c.as_slice-in-Set-2.ensures.value))
     c.are_both_right-in-Set.ensures)

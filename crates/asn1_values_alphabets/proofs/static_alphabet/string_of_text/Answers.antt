@@ -18,17 +18,20 @@ loop-character-preserved g c =
     let same = c.from.ensures in
     record {
       made = cc;
-      first = rw length_push (sym (first_refused-permitted g.S.StaticPermittedAlphabet.kind c.in-Some.character (drop (length c.loop-character.yielded + 1) (chars c.args.text.now)) permitted) ∙ sym e ∙ c.loop-character.invariant.first);
+      first = rw length_push (sym (first_refused-permitted g.S.StaticPermittedAlphabet.kind c.in-Some.character
+          (drop (length c.loop-character.yielded + 1) (chars c.args.text.now)) permitted) ∙ sym e ∙ c.loop-character.invariant.first);
     }
 
 pub returns-in_err-push_char-clause-refused : goal.returns-in_err-push_char-clause-refused
 returns-in_err-push_char-clause-refused g c =
     let t = YieldsList-turn (YieldsList-from_chars c.args.text.now c.utf8.text cc) c.loop-character.yielded _ c.loop-character.yielded_by _ _ c.in-Some.character c.in-Some.is c.next.ensures.steps in
     let e = turn_of_text g.S.StaticPermittedAlphabet.kind (chars c.args.text.now) (length c.loop-character.yielded) c.in-Some.character t.0 t.1 in
-    let r : IsRefusalOf g.S.StaticPermittedAlphabet.kind g.S.StaticPermittedAlphabet.refused (c.in-Some.character ∷ []) c.in_err-push_char.field-0.0 = rw (← c.from.ensures) c.in_err-push_char.ensures.refused in
+    let r : IsRefusalOf g.S.StaticPermittedAlphabet.kind g.S.StaticPermittedAlphabet.refused (c.in-Some.character ∷ []) c.in_err-push_char.field-0.0 =
+    rw (← c.from.ensures) c.in_err-push_char.ensures.refused in
     let p = err_from_is_err_and c.from_residual-in_err-push_char.result c.from_residual-in_err-push_char.ensures.1 in
     let all : permits_all g.S.StaticPermittedAlphabet.kind (chars c.args.text.now) ≡ true = search rules in
-    rw (p.1, p.2) (refused_by_first g.S.StaticPermittedAlphabet.kind g.S.StaticPermittedAlphabet.refused c.in-Some.character (drop (length c.loop-character.yielded + 1) (chars c.args.text.now)) (chars c.args.text.now) c.in_err-push_char.field-0.0 (sym e ∙ c.loop-character.invariant.first) all r)
+    rw (p.1, p.2) (refused_by_first g.S.StaticPermittedAlphabet.kind g.S.StaticPermittedAlphabet.refused c.in-Some.character
+    (drop (length c.loop-character.yielded + 1) (chars c.args.text.now)) (chars c.args.text.now) c.in_err-push_char.field-0.0 (sym e ∙ c.loop-character.invariant.first) all r)
 
 pub returns-clause-characters : goal.returns-clause-characters
 returns-clause-characters g c =

@@ -33,15 +33,19 @@ loop-octet-preserved c =
       room = omega (arith, ap length c.split_at.ensures.rest, length-drop few (bits_of c.loop-octet.rest), c.loop-octet.invariant.room, few_is, long);
       made = ap (λ k. octet_bits (take (i + 1) (set os i y)) ++ to_come (k - (i + 1)) (bits_of c.split_at.result.1)) long
           ∙ ap (λ l. octet_bits (take (i + 1) (set os i y)) ++ to_come (n - (i + 1)) l) c.split_at.ensures.rest
-          ∙ octet_made os i n few c.first_number.result y (bits_of c.loop-octet.rest) (to_come n (bits_of c.args.bits)) within refl c.loop-octet.invariant.room few_is c.first_number.ensures.digits whole c.loop-octet.invariant.made
+          ∙ octet_made os i n few c.first_number.result y (bits_of c.loop-octet.rest) (to_come n (bits_of c.args.bits)) within refl
+          c.loop-octet.invariant.room few_is c.first_number.ensures.digits whole c.loop-octet.invariant.made
           ∙ sym (ap (λ k. to_come k (bits_of c.args.bits)) long);
     }
 
 made_all : (c : goal.After-loop-octet) → octet_bits c.loop-octet.octet-items ≡ to_come (length c.args.octets.now) (bits_of c.args.bits)
-made_all c = filled c.loop-octet.octet-items (bits_of c.loop-octet.rest) (to_come (length c.args.octets.now) (bits_of c.args.bits)) c.loop-octet.octet-index (omega (arith, c.loop-octet-test.false, c.loop-octet.auto.octet-items)) c.loop-octet.invariant.room (c.loop-octet.invariant.made ∙ ap (λ k. to_come k (bits_of c.args.bits)) c.loop-octet.auto.octet-items)
+made_all c = filled c.loop-octet.octet-items (bits_of c.loop-octet.rest) (to_come (length c.args.octets.now) (bits_of c.args.bits))
+    c.loop-octet.octet-index (omega (arith, c.loop-octet-test.false, c.loop-octet.auto.octet-items)) c.loop-octet.invariant.room
+    (c.loop-octet.invariant.made ∙ ap (λ k. to_come k (bits_of c.args.bits)) c.loop-octet.auto.octet-items)
 
 pub returns-clause-octets : goal.returns-clause-octets
-returns-clause-octets c = filled_octets c.loop-octet.octet-items (length c.args.octets.now) (bits_of c.args.bits) (λ k l. c.loop-octet.invariant.small k (omega (arith, c.loop-octet-test.false, c.loop-octet.auto.octet-items))) (made_all c)
+returns-clause-octets c = filled_octets c.loop-octet.octet-items (length c.args.octets.now) (bits_of c.args.bits)
+    (λ k l. c.loop-octet.invariant.small k (omega (arith, c.loop-octet-test.false, c.loop-octet.auto.octet-items))) (made_all c)
 
 pub returns-clause-bits : goal.returns-clause-bits
 returns-clause-bits c = made_all c

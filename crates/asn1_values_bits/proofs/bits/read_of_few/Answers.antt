@@ -21,4 +21,5 @@ returns-clause-digits c =
     let here : u ≤ length (drop s os) = omega (arith, c.requires.within, length-drop s os) in
     let long : length (take (s + u - s) (drop s os)) * 8 ≡ u * 8 = ap (λ k. length (take k (drop s os)) * 8) cut ∙ ap (λ k. k * 8) (length-take-le u (drop s os) here) in
     masked_digits n (f / 2 ^ past) c.requires.narrow
-    ∙ few_read os p s o n u past f (omega arith) (omega arith) (omega (arith, c.requires.within)) (ap (λ k. binary k f) (sym long) ∙ c.few_octets-all.ensures ∙ ap (λ k. octet_bits (take k (drop s os))) cut)
+    ∙ few_read os p s o n u past f (omega arith) (omega arith) (omega (arith, c.requires.within))
+    (ap (λ k. binary k f) (sym long) ∙ c.few_octets-all.ensures ∙ ap (λ k. octet_bits (take k (drop s os))) cut)

@@ -39,5 +39,6 @@ returns-clause-digits c =
     let f : ℕ = c.eight_octets-eight.result in
     let x : ℕ = at os (s + 8) in
     let w : ℕ = bit_or (f * 2 ^ o % 2 ^ 64) (x / 2 ^ (8 - o)) in
-    let across : binary 64 w ≡ take 64 (drop (s * 8 + o) B) = octets_across 8 os s o f x (omega arith) (omega arith) (omega (arith, c.requires.nine)) c.eight_octets-eight.ensures (get_or_default os (s + 8) 0 x (omega (arith, c.requires.nine))) (c.type_inv.octets (s + 8)).fits in
+    let across : binary 64 w ≡ take 64 (drop (s * 8 + o) B) = octets_across 8 os s o f x (omega arith) (omega arith) (omega (arith, c.requires.nine))
+    c.eight_octets-eight.ensures (get_or_default os (s + 8) 0 x (omega (arith, c.requires.nine))) (c.type_inv.octets (s + 8)).fits in
     first_digits n w c.requires.narrow ∙ ap (take n) across ∙ take-take n 64 (drop (s * 8 + o) B) c.requires.narrow ∙ ap (λ k. take n (drop k B)) (omega arith)

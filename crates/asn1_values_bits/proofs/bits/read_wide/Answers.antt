@@ -18,5 +18,6 @@ pub returns-clause-fits : goal.returns-clause-fits
 returns-clause-fits c =
     let w : ℕ = c.args.count - 64 in
     let all : w + 64 ≡ c.args.count = omega arith in
-    let joined : bit_or (c.read_apart-high.result * 2 ^ 64 % 2 ^ 128) c.read_apart-low.result ≡ c.read_apart-high.result * 2 ^ 64 + c.read_apart-low.result = wide_is w c.read_apart-high.result c.read_apart-low.result c.read_apart-high.ensures.fits (omega arith) c.read_apart-low.ensures.fits in
+    let joined : bit_or (c.read_apart-high.result * 2 ^ 64 % 2 ^ 128) c.read_apart-low.result ≡ c.read_apart-high.result * 2 ^ 64 +
+    c.read_apart-low.result = wide_is w c.read_apart-high.result c.read_apart-low.result c.read_apart-high.ensures.fits (omega arith) c.read_apart-low.ensures.fits in
     rw (joined, ← all) (wide_small w c.read_apart-high.result c.read_apart-low.result c.read_apart-high.ensures.fits c.read_apart-low.ensures.fits)

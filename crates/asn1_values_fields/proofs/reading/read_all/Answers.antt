@@ -26,8 +26,10 @@ loop-field-preserved c =
     let rest = drop (i + 1) shapes in
     let d = drop-cons shapes i s c.loop-field-test.true ∙ ap (λ x. x ∷ drop (suc i) shapes) (sym c.index-shapes-field.is) ∙ ap (λ k. s ∷ drop k shapes) (sym (add-one i)) in
     record {
-      done = read_later shapes c.args.reader.now.bits c.loop-field.reader.bits c.read_field.new.reader.bits i s rest c.in-Ok.value c.loop-field.values.items c.push.new.self.items d c.loop-field.invariant.done c.in-Ok.ensures.value c.in-Ok.ensures.rest.0 c.in-Ok.ensures.rest.1 c.in-Ok-push.ensures.items;
-      stuck = unread_later shapes c.args.reader.now.bits c.loop-field.reader.bits c.read_field.new.reader.bits i s rest c.in-Ok.value d c.loop-field.invariant.stuck c.in-Ok.ensures.value c.in-Ok.ensures.rest.1;
+      done = read_later shapes c.args.reader.now.bits c.loop-field.reader.bits c.read_field.new.reader.bits i s rest c.in-Ok.value
+          c.loop-field.values.items c.push.new.self.items d c.loop-field.invariant.done c.in-Ok.ensures.value c.in-Ok.ensures.rest.0 c.in-Ok.ensures.rest.1 c.in-Ok-push.ensures.items;
+      stuck = unread_later shapes c.args.reader.now.bits c.loop-field.reader.bits c.read_field.new.reader.bits i s rest c.in-Ok.value d
+          c.loop-field.invariant.stuck c.in-Ok.ensures.value c.in-Ok.ensures.rest.1;
     }
 
 pub returns-clause-ok : goal.returns-clause-ok

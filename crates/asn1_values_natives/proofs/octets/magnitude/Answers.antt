@@ -12,6 +12,7 @@ pub loop-octet-preserved : goal.loop-octet-preserved
 loop-octet-preserved c =
     let d : c.from.result < 256 = omega arith in
     record {
-      value = rw (c.from.ensures, c.without_sign.ensures) (unsigned-more c.args.negative c.args.octets.now c.loop-octet.octet-index c.loop-octet.total c.loop-octet-test.true c.loop-octet.invariant.value);
+      value = rw (c.from.ensures, c.without_sign.ensures) (unsigned-more c.args.negative c.args.octets.now c.loop-octet.octet-index c.loop-octet.total
+          c.loop-octet-test.true c.loop-octet.invariant.value);
       small = octet_room c.loop-octet.octet-index c.loop-octet.total c.from.result c.loop-octet.invariant.small d;
     }

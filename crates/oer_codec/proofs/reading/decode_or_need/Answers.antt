@@ -4,10 +4,12 @@ use Rattle.oer_codec.proofs.Messages.{left_within, told_from, none_told_from, mo
 use Rattle.oer_codec.proofs.reading.decode_or_need.Goals as goal
 
 pub returns-clause-only : goal.returns-clause-only
-returns-clause-only g c = none_told_from c.args.rules g.T.Described.schema c.args.input.now c.new-decoder.result _ c.in-Err.error (g.T.Described.typed.lawful 128) c.new-decoder.ensures c.in-Err.ensures.only
+returns-clause-only g c = none_told_from c.args.rules g.T.Described.schema c.args.input.now c.new-decoder.result _ c.in-Err.error
+    (g.T.Described.typed.lawful 128) c.new-decoder.ensures c.in-Err.ensures.only
 
 pub returns-clause-needed : goal.returns-clause-needed
-returns-clause-needed g c = more_needed_from c.args.rules g.T.Described.schema c.args.input.now c.new-decoder.result _ _ c.in-Err.error (g.T.Described.typed.lawful 128) c.new-decoder.ensures c.needed-needed.ensures c.in-Err.ensures.only
+returns-clause-needed g c = more_needed_from c.args.rules g.T.Described.schema c.args.input.now c.new-decoder.result _ _ c.in-Err.error
+    (g.T.Described.typed.lawful 128) c.new-decoder.ensures c.needed-needed.ensures c.in-Err.ensures.only
 
 pub returns-clause-fresh : goal.returns-clause-fresh
 returns-clause-fresh g c = λ h. not_failed c.args.rules c.args.input.now c.new-decoder.ensures (c.in-Err.ensures.call.after (ap Err h))
@@ -23,4 +25,7 @@ split_at-requires g c =
     omega (arith, l, length-take (2 ^ 60 - 1) c.args.input.now)
 
 pub returns-in-Ok-clause-ok : goal.returns-in-Ok-clause-ok
-returns-in-Ok-clause-ok g c = rw c.split_at.ensures.back (rw c.remaining-looked_at.ensures (rw c.remaining.ensures (told_from c.args.rules g.T.Described.schema _ c.args.input.now c.new-decoder.result c.decode.new.decoder c.new-decoder.ensures c.in-Ok.ensures.ok)))
+returns-in-Ok-clause-ok g c =
+    rw c.split_at.ensures.back
+    (rw c.remaining-looked_at.ensures
+    (rw c.remaining.ensures (told_from c.args.rules g.T.Described.schema _ c.args.input.now c.new-decoder.result c.decode.new.decoder c.new-decoder.ensures c.in-Ok.ensures.ok)))

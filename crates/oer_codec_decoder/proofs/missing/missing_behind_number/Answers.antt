@@ -14,4 +14,5 @@ returns-in-Ok c =
     let m = c.len-in-Ok.ensures.count in
     let s = c.saturating_sub.ensures in
     let t = c.saturating_sub-in-Ok.ensures in
-    behind_number (freedoms c.args.rules) c.in-Ok.length c.args.octets.now c.read_length.new.cursor _ (subst (λ os. Stands (freedoms c.args.rules) (Oer.length_form c.in-Ok.length) os c.read_length.new.cursor) (e ∙ looked_at c.args.octets.now h) c.in-Ok.ensures.ok) (omega (arith, m, s, t))
+    behind_number (freedoms c.args.rules) c.in-Ok.length c.args.octets.now c.read_length.new.cursor _
+    (subst (λ os. Stands (freedoms c.args.rules) (Oer.length_form c.in-Ok.length) os c.read_length.new.cursor) (e ∙ looked_at c.args.octets.now h) c.in-Ok.ensures.ok) (omega (arith, m, s, t))

@@ -6,7 +6,7 @@ use Rattle.oer_codec_encoder.specs.Holding.{Does}
 use Rattle.oer_codec_encoder.proofs.AdditionScopes.{additions_fit, bit_within, does_no_addition, does_addition}
 use Rattle.oer_codec_encoder.proofs.Refusals.{no_addition_due}
 use Rattle.asn1_values_bits.proofs.Refused.{though_refused}
-use Rattle.oer_codec_encoder.proofs.Fronts.{ground_as, keeps_raised, keeps_same}
+use Rattle.oer_codec_encoder.proofs.EarlierOctets.{ground_as, keeps_raised, keeps_same}
 use Rattle.oer_codec_encoder.proofs.additions.encode_addition.Goals as goal
 
 pub next_addition-requires : goal.next_addition-requires
@@ -27,7 +27,8 @@ returns-in_ok-open_in_place-clause-step c =
     let a = c.in-Some.additions in
     subst (λ b. Does (addition b) c.args.frames.now c.args.octets.now.items c.open_in_place.new.frames c.open_in_place.new.octets.items) (sym c.if-present.true)
     (does_addition c.args.frames.now e.0 a c.args.octets.now.items e.1 e.2 c.next_addition.new.self c.open_in_place.new.frames c.raise_bit.new.octets.items c.open_in_place.new.octets.items
-    (subst (λ b. c.next_addition.new.self ≡ Added (with_next b a) ∷ e.0) c.if-present.true e.3) c.raise_bit.ensures.others c.raise_bit.ensures.bit c.type_inv.octets c.in_ok-open_in_place.ensures.octets c.in_ok-open_in_place.ensures.frames)
+    (subst (λ b. c.next_addition.new.self ≡ Added (with_next b a) ∷ e.0) c.if-present.true e.3) c.raise_bit.ensures.others c.raise_bit.ensures.bit
+    c.type_inv.octets c.in_ok-open_in_place.ensures.octets c.in_ok-open_in_place.ensures.frames)
 
 pub returns-else-present-clause-step : goal.returns-else-present-clause-step
 returns-else-present-clause-step c =
@@ -40,4 +41,7 @@ pub returns-in_default-clause-kept : goal.returns-in_default-clause-kept
 returns-in_default-clause-kept c = keeps_same _ _ _ _ c.in_default.ensures.still refl
 
 pub returns-in_err-open_in_place-clause-kept : goal.returns-in_err-open_in_place-clause-kept
-returns-in_err-open_in_place-clause-kept c = though_refused _ (let e = c.in-Some.ensures.some in let a = c.in-Some.additions in keeps_raised c.args.frames.now e.0 c.open_in_place.new.frames a c.args.octets.now.items c.raise_bit.new.octets.items c.open_in_place.new.octets.items (a.given / 8) _ e.1 (ground_as _ _ c.open_in_place.new.octets.items (c.in_err-open_in_place.ensures.still ∙ e.3)) c.raise_bit.ensures.others c.in_err-open_in_place.ensures.kept)
+returns-in_err-open_in_place-clause-kept c = though_refused _ (let e = c.in-Some.ensures.some in let a = c.in-Some.additions in
+    keeps_raised c.args.frames.now e.0 c.open_in_place.new.frames a c.args.octets.now.items c.raise_bit.new.octets.items
+    c.open_in_place.new.octets.items (a.given / 8) _ e.1 (ground_as _ _ c.open_in_place.new.octets.items (c.in_err-open_in_place.ensures.still ∙ e.3))
+    c.raise_bit.ensures.others c.in_err-open_in_place.ensures.kept)

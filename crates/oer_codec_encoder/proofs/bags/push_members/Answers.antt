@@ -7,7 +7,8 @@ use Rattle.asn1_values_identifiers.proofs.Begins.{begins_same}
 use Rattle.oer_codec_encoder.proofs.bags.push_members.Goals as goal
 
 pub returns-then-is_empty-clause-text : goal.returns-then-is_empty-clause-text
-returns-then-is_empty-clause-text c = adds_one c.args.members c.args.last.now c.args.octets.now.items c.extend_from_slice.new.self.items (c.is_empty.ensures.0 c.if-is_empty.true) c.in_ok-extend_from_slice.ensures.items
+returns-then-is_empty-clause-text c = adds_one c.args.members c.args.last.now c.args.octets.now.items c.extend_from_slice.new.self.items
+    (c.is_empty.ensures.0 c.if-is_empty.true) c.in_ok-extend_from_slice.ensures.items
 
 pub returns-clause-text : goal.returns-clause-text
 returns-clause-text c =

@@ -5,7 +5,8 @@ use Rattle.oer_codec_encoder.proofs.EndScopes.{does_end_root, does_end_added, is
 use Rattle.oer_codec_encoder.proofs.ends.end_added.Goals as goal
 
 pub returns-then-not-additions-clause-step : goal.returns-then-not-additions-clause-step
-returns-then-not-additions-clause-step c k = does_end_root c.args.additions k c.args.octets.now.items c.truncate.new.self.items (omega (arith, c.if-additions-gt0.false)) (is_not_so c.args.additions.any c.if-not-additions.true) c.truncate.ensures.items
+returns-then-not-additions-clause-step c k = does_end_root c.args.additions k c.args.octets.now.items c.truncate.new.self.items
+    (omega (arith, c.if-additions-gt0.false)) (is_not_so c.args.additions.any c.if-not-additions.true) c.truncate.ensures.items
 
 pub returns-clause-step : goal.returns-clause-step
 returns-clause-step c k =

@@ -5,11 +5,11 @@ use Rattle.oer_codec_encoder.specs.Holding.{BagEnds}
 use Rattle.oer_codec_encoder.proofs.BagScopes.{bag_ends}
 use Rattle.oer_codec_encoder.proofs.EndScopes.{components_end, open_frame_within, open_frame_ends, added_frame_within, added_frame_ends}
 use Rattle.asn1_model.specs.Versions.{Begins}
-use Rattle.oer_codec_encoder.specs.Fronts.{Keeps}
+use Rattle.oer_codec_encoder.specs.EarlierOctets.{Keeps}
 use Rattle.oer_codec_encoder.specs.declared.frame.Frame.{Frame}
 use Rattle.oer_codec_encoder.specs.declared.frame.Frame.TheVariants.{Added, OpenType, Bag as BagOpen}
 use Rattle.std.specs.Box.{with_value}
-use Rattle.oer_codec_encoder.proofs.Fronts.{keeps_bag, keeps_room, keeps_same}
+use Rattle.oer_codec_encoder.proofs.EarlierOctets.{keeps_bag, keeps_room, keeps_same}
 use Rattle.std.proofs.lemmas.Result.{on_err_weaker}
 use Rattle.oer_codec_encoder.proofs.ends.end_frame.Goals as goal
 use Rattle.oer_codec_encoder.proofs.ends.end_frame.Goals.{then-preamble-via-then-preamble, then-preamble-via-else-preamble+then-preamble-gt0}
@@ -35,7 +35,8 @@ insert_length-requires c =
     omega (arith, l, c.args.octets.now.ok.0)
 
 pub returns-in-OpenType-clause-step : goal.returns-in-OpenType-clause-step
-returns-in-OpenType-clause-step c = open_frame_ends c.args.frame.now c.in-OpenType.start c.args.octets.now.items c.insert_length.new.octets.items c.insert_length.result c.in-OpenType.is c.insert_length.ensures.text
+returns-in-OpenType-clause-step c = open_frame_ends c.args.frame.now c.in-OpenType.start c.args.octets.now.items c.insert_length.new.octets.items
+    c.insert_length.result c.in-OpenType.is c.insert_length.ensures.text
 
 pub returns-in-Bag-clause-step : goal.returns-in-Bag-clause-step
 returns-in-Bag-clause-step c =
@@ -79,5 +80,6 @@ returns-in-Bag-clause-kept c =
     let f = c.args.frame.now in
     let i = c.in-Bag in
     let next = with_value i.bag c.end_bag.new.bag in
-    let left : Begins c.deref_mut.result.now.outer.items c.end_bag.new.bag.outer.items → (k : List Frame) → Keeps (f ∷ k) o (BagOpen next ∷ k) p = λ b k. keeps_bag (f ∷ k) k (BagOpen next ∷ k) i.bag next o p (ap (λ g. g ∷ k) i.is) refl (subst (λ (x : Bag). Begins x.outer.items next.value.outer.items) c.deref_mut.ensures.value b) in
+    let left : Begins c.deref_mut.result.now.outer.items c.end_bag.new.bag.outer.items → (k : List Frame) → Keeps (f ∷ k) o (BagOpen next ∷ k) p =
+    λ b k. keeps_bag (f ∷ k) k (BagOpen next ∷ k) i.bag next o p (ap (λ g. g ∷ k) i.is) refl (subst (λ (x : Bag). Begins x.outer.items next.value.outer.items) c.deref_mut.ensures.value b) in
     on_err_weaker c.end_bag.result left c.end_bag.ensures.kept

@@ -1,6 +1,6 @@
 use Rattle.std.proofs.Common.{sym}
 use Rattle.asn1_values_bits.proofs.Refused.{though_refused}
-use Rattle.oer_codec_encoder.proofs.Fronts.{begins_taken, rebased}
+use Rattle.oer_codec_encoder.proofs.EarlierOctets.{begins_taken, rebased}
 use Rattle.oer_codec_encoder.proofs.open_type.insert_long_length.Goals as goal
 
 pub returns-in_err-contents-clause-kept : goal.returns-in_err-contents-clause-kept

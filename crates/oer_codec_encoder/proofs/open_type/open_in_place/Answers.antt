@@ -1,4 +1,4 @@
-use Rattle.oer_codec_encoder.proofs.Fronts.{begins_added}
+use Rattle.oer_codec_encoder.proofs.EarlierOctets.{begins_added}
 use Rattle.asn1_values_bits.proofs.Refused.{though_refused}
 use Rattle.asn1_values_identifiers.proofs.Begins.{begins_same}
 use Rattle.oer_codec_encoder.proofs.open_type.open_in_place.Goals as goal

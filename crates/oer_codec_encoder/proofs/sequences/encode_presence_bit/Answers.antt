@@ -3,7 +3,7 @@ use Rattle.asn1_schema_laws.specs.Records.{presence_bit}
 use Rattle.oer_codec_encoder.specs.Holding.{Does}
 use Rattle.oer_codec_encoder.proofs.Refusals.{no_presence_bit_due}
 use Rattle.oer_codec_encoder.proofs.Scopes.{presence_bit_within, does_presence_bit_absent, does_presence_bit_present, with_extension_byte, presence_bits_fit}
-use Rattle.oer_codec_encoder.proofs.Fronts.{keeps_same}
+use Rattle.oer_codec_encoder.proofs.EarlierOctets.{keeps_same}
 use Rattle.oer_codec_encoder.proofs.sequences.encode_presence_bit.Goals as goal
 
 pub next_presence_bit-requires : goal.next_presence_bit-requires
@@ -24,7 +24,8 @@ returns-then-present-clause-step c =
     let e = c.in-Some.ensures.some in
     let p = c.in-Some.preamble in
     subst (λ b. Does (presence_bit b) c.args.frames.now c.args.octets.now.items c.next_presence_bit.new.self c.raise_bit.new.octets.items) (sym c.if-present.true)
-    (does_presence_bit_present c.args.frames.now e.0 p c.args.octets.now.items e.1 e.2 c.next_presence_bit.new.self c.raise_bit.new.octets.items (p.given + c.from.result) e.3 (with_extension_byte p.given c.from.result p.extensible c.from.ensures) c.raise_bit.ensures.others c.raise_bit.ensures.bit c.type_inv.octets)
+    (does_presence_bit_present c.args.frames.now e.0 p c.args.octets.now.items e.1 e.2 c.next_presence_bit.new.self c.raise_bit.new.octets.items
+    (p.given + c.from.result) e.3 (with_extension_byte p.given c.from.result p.extensible c.from.ensures) c.raise_bit.ensures.others c.raise_bit.ensures.bit c.type_inv.octets)
 
 pub returns-else-present-clause-step : goal.returns-else-present-clause-step
 returns-else-present-clause-step c =

@@ -17,4 +17,5 @@ returns-then-not-is_taken-clause-only c =
 pub returns-clause-ok : goal.returns-clause-ok
 returns-clause-ok c =
     let q = c.in_ok-octets.ensures in
-    bits_read c.args.rules c.args.count c.in_ok-octets.octets.now c.args.cursor.now c.take.new.self _ (let l = q.count in omega (arith, l)) q.small q.octets (c.if-not-is_taken.ensures.taken refl) c.front_of.ensures.bits
+    bits_read c.args.rules c.args.count c.in_ok-octets.octets.now c.args.cursor.now c.take.new.self _ (let l = q.count in omega (arith, l)) q.small
+    q.octets (c.if-not-is_taken.ensures.taken refl) c.front_of.ensures.bits

@@ -17,9 +17,11 @@ returns-in_default-clause-only c =
 pub returns-then-not-is_taken-clause-only : goal.returns-then-not-is_taken-clause-only
 returns-then-not-is_taken-clause-only c =
     let q = c.in_ok-octets.ensures in
-    not_shortest c.args.rules c.args.count c.in-Some.length c.in_ok-octets.octets.now c.take.new.self c.args.cursor.now c.requires.some q.small q.count q.octets c.in-Some.ensures.number (sym c.if-not-is_taken.ensures)
+    not_shortest c.args.rules c.args.count c.in-Some.length c.in_ok-octets.octets.now c.take.new.self c.args.cursor.now c.requires.some q.small
+    q.count q.octets c.in-Some.ensures.number (sym c.if-not-is_taken.ensures)
 
 pub returns-clause-ok : goal.returns-clause-ok
 returns-clause-ok c =
     let q = c.in_ok-octets.ensures in
-    read_long c.args.rules c.args.count c.in-Some.length c.in_ok-octets.octets.now c.take.new.self c.args.cursor.now c.requires.some c.requires.most q.small q.count q.octets c.in-Some.ensures.number c.in-Some.ensures.fits (sym c.if-not-is_taken.ensures)
+    read_long c.args.rules c.args.count c.in-Some.length c.in_ok-octets.octets.now c.take.new.self c.args.cursor.now c.requires.some c.requires.most
+    q.small q.count q.octets c.in-Some.ensures.number c.in-Some.ensures.fits (sym c.if-not-is_taken.ensures)

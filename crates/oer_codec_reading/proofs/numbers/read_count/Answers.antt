@@ -1,7 +1,7 @@
 use Rattle.std.proofs.Common.{None, false}
 use Rattle.std.proofs.lemmas.Result.{err_from_is_err_and}
 use Rattle.oer_codec_reading.specs.Fronts.{freedoms}
-use Rattle.oer_codec_reading.specs.Whole.{count_in, number_in}
+use Rattle.oer_codec_reading.specs.Integers.{count_in, number_in}
 use Rattle.oer_codec_reading.proofs.Fronts.{misses_also}
 use Rattle.oer_codec_reading.proofs.WholeFronts.{count_read, no_count, count_past}
 use Rattle.oer_codec_reading.proofs.numbers.read_count.Goals as goal

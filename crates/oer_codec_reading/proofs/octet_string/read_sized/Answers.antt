@@ -15,7 +15,8 @@ returns-in_err-octets-in-Some-clause-only c =
 pub returns-in_err-octets-in-None-clause-only : goal.returns-in_err-octets-in-None-clause-only
 returns-in_err-octets-in-None-clause-only c =
     let p = err_from_is_err_and c.from_residual-in_err-octets-in-None.result c.from_residual-in_err-octets-in-None.ensures.1 in
-    rw (p.1, p.2) (misses_also (freedoms c.args.rules) counted (sized c.args.size) c.args.cursor.now c.args.cursor.now _ (no_number (freedoms c.args.rules) c.args.size c.args.cursor.now c.in-None.is) c.in_err-octets-in-None.ensures.only)
+    rw (p.1, p.2) (misses_also (freedoms c.args.rules) counted (sized c.args.size) c.args.cursor.now c.args.cursor.now _
+    (no_number (freedoms c.args.rules) c.args.size c.args.cursor.now c.in-None.is) c.in_err-octets-in-None.ensures.only)
 
 pub returns-in_ok-octets-in-Some-clause-ok : goal.returns-in_ok-octets-in-Some-clause-ok
 returns-in_ok-octets-in-Some-clause-ok c =
@@ -23,4 +24,5 @@ returns-in_ok-octets-in-Some-clause-ok c =
     of_size (freedoms c.args.rules) c.args.size c.in-Some.count c.in_ok-octets-in-Some.octets.now c.args.cursor.now c.take.new.self c.in-Some.is q.small q.count q.octets
 
 pub returns-in_ok-octets-in-None-clause-ok : goal.returns-in_ok-octets-in-None-clause-ok
-returns-in_ok-octets-in-None-clause-ok c = behind_number (freedoms c.args.rules) c.args.size c.in_ok-octets-in-None.octets.now c.args.cursor.now c.read_counted.new.cursor c.in-None.is c.in_ok-octets-in-None.ensures.ok
+returns-in_ok-octets-in-None-clause-ok c = behind_number (freedoms c.args.rules) c.args.size c.in_ok-octets-in-None.octets.now c.args.cursor.now
+    c.read_counted.new.cursor c.in-None.is c.in_ok-octets-in-None.ensures.ok

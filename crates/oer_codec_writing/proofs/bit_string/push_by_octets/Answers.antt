@@ -20,10 +20,13 @@ pub loop-rest-preserved : goal.loop-rest-preserved
 loop-rest-preserved c =
     let few : ℕ = c.min-few.result in
     let b = bits_of c.loop-rest.rest in
-    let whole : c.first_number.result * 2 ^ (8 - few) % 2 ^ 128 ≡ c.first_number.result * 2 ^ (8 - few) = shl_whole c.first_number.result few (8 - few) 128 c.first_number.ensures.fits (omega (arith, c.min-few.ensures)) in
+    let whole : c.first_number.result * 2 ^ (8 - few) % 2 ^ 128 ≡ c.first_number.result * 2 ^ (8 - few) =
+    shl_whole c.first_number.result few (8 - few) 128 c.first_number.ensures.fits (omega (arith, c.min-few.ensures)) in
     let few_is : few ≡ min (length b) 8 = c.min-few.ensures ∙ ap (λ k. min k 8) c.len-in-loop-rest.ensures in
     record {
-      text = bits_moved (c.args.octets.now.items ++ packed (padded (bits_of c.args.value))) c.loop-rest.octets.items c.push.new.self.items b (bits_of c.split_at.result.1) few c.first_number.result _ c.loop-rest.invariant.text (omega (arith, c.loop-rest-test.true, c.len.ensures)) few_is c.first_number.ensures.digits c.first_number.ensures.fits whole c.in_ok-push.ensures.items c.split_at.ensures.rest;
+      text = bits_moved (c.args.octets.now.items ++ packed (padded (bits_of c.args.value))) c.loop-rest.octets.items c.push.new.self.items b
+          (bits_of c.split_at.result.1) few c.first_number.result _ c.loop-rest.invariant.text (omega (arith, c.loop-rest-test.true, c.len.ensures))
+          few_is c.first_number.ensures.digits c.first_number.ensures.fits whole c.in_ok-push.ensures.items c.split_at.ensures.rest;
       kept = begins_through _ _ _ c.loop-rest.invariant.kept (_, sym c.in_ok-push.ensures.items);
     }
 

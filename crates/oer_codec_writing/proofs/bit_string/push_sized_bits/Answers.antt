@@ -19,7 +19,8 @@ returns-clause-text c =
     let old = c.args.octets.now.items in
     let mid = c.push_bits_heading.new.octets.items in
     subst (λ b. Adds (written (Oer.bit_string_form b bs) 0) old c.push_bits-2.new.octets.items) (sym c.if-fixed.false)
-    (adds_headed_bits bs old mid c.push_bits-2.new.octets.items (subst (λ n. Adds (written (bits_heading n) 0) old mid) c.len.ensures c.in_ok-push_bits_heading.ensures.text) c.in_ok-push_bits-2.ensures.text)
+    (adds_headed_bits bs old mid c.push_bits-2.new.octets.items (subst (λ n. Adds (written (bits_heading n) 0) old mid) c.len.ensures
+    c.in_ok-push_bits_heading.ensures.text) c.in_ok-push_bits-2.ensures.text)
 
 pub returns-in_err-push_bits-clause-kept : goal.returns-in_err-push_bits-clause-kept
 returns-in_err-push_bits-clause-kept c = though_refused _ c.in_err-push_bits.ensures.kept
@@ -28,4 +29,5 @@ pub returns-in_err-push_bits_heading-clause-kept : goal.returns-in_err-push_bits
 returns-in_err-push_bits_heading-clause-kept c = though_refused _ c.in_err-push_bits_heading.ensures.kept
 
 pub returns-in_err-push_bits-2-clause-kept : goal.returns-in_err-push_bits-2-clause-kept
-returns-in_err-push_bits-2-clause-kept c = though_refused _ (begins_behind_text _ c.args.octets.now.items c.push_bits_heading.new.octets.items _ c.in_ok-push_bits_heading.ensures.text c.in_err-push_bits-2.ensures.kept)
+returns-in_err-push_bits-2-clause-kept c =
+    though_refused _ (begins_behind_text _ c.args.octets.now.items c.push_bits_heading.new.octets.items _ c.in_ok-push_bits_heading.ensures.text c.in_err-push_bits-2.ensures.kept)

@@ -27,12 +27,14 @@ returns-then-contains_char-clause-text g c =
     let os = flat_map (digits 256 2) cs in
     let new = c.push_wide_string.new.octets.items in
     adds_same _ _ c.args.octets.now.items new
-    (characters_text k z (alphabet_of c.args.constraints.now.permitted_alphabet) any_count cs os (ap (admits z any_count) (sym c.char_count.ensures.count) ∙ ap (λ y. admits y any_count c.char_count.result) (sym c.sizes-sizes.ensures) ∙ sym c.admits.ensures ∙ c.if-not-admits.false)
+    (characters_text k z (alphabet_of c.args.constraints.now.permitted_alphabet) any_count cs os
+    (ap (admits z any_count) (sym c.char_count.ensures.count) ∙ ap (λ y. admits y any_count c.char_count.result) (sym c.sizes-sizes.ensures) ∙ sym c.admits.ensures ∙ c.if-not-admits.false)
     (g.met.S.StaticPermittedAlphabet.holds cs ∙ c.char_count.ensures.permitted) (wide_text k cs (sym c.contains_char.ensures ∙ c.if-contains_char.true)))
     (subst (λ b. Adds (written (Oer.octets_form b os) 0) c.args.octets.now.items new) (c.is_fixed-fixed.ensures ∙ ap Oer.is_fixed c.sizes-sizes.ensures) c.in_ok-push_wide_string.ensures.text)
 
 pub push_narrow_string-requires : goal.push_narrow_string-requires
-push_narrow_string-requires g c = narrow_octets g.S.StaticPermittedAlphabet.kind (g.S.StaticPermittedAlphabet.characters c.args.value.now) (sym c.contains_char.ensures ∙ c.if-contains_char.false) c.char_count.ensures.permitted
+push_narrow_string-requires g c = narrow_octets g.S.StaticPermittedAlphabet.kind (g.S.StaticPermittedAlphabet.characters c.args.value.now)
+    (sym c.contains_char.ensures ∙ c.if-contains_char.false) c.char_count.ensures.permitted
 
 pub returns-clause-text : goal.returns-clause-text
 returns-clause-text g c =
@@ -41,7 +43,8 @@ returns-clause-text g c =
     let cs = g.S.StaticPermittedAlphabet.characters c.args.value.now in
     let new = c.push_narrow_string.new.octets.items in
     adds_same _ _ c.args.octets.now.items new
-    (characters_text k z (alphabet_of c.args.constraints.now.permitted_alphabet) any_count cs cs (ap (admits z any_count) (sym c.char_count.ensures.count) ∙ ap (λ y. admits y any_count c.char_count.result) (sym c.sizes-sizes.ensures) ∙ sym c.admits.ensures ∙ c.if-not-admits.false)
+    (characters_text k z (alphabet_of c.args.constraints.now.permitted_alphabet) any_count cs cs
+    (ap (admits z any_count) (sym c.char_count.ensures.count) ∙ ap (λ y. admits y any_count c.char_count.result) (sym c.sizes-sizes.ensures) ∙ sym c.admits.ensures ∙ c.if-not-admits.false)
     (g.met.S.StaticPermittedAlphabet.holds cs ∙ c.char_count.ensures.permitted) (narrow_text k cs (sym c.contains_char.ensures ∙ c.if-contains_char.false)))
     (subst (λ b. Adds (written (Oer.octets_form b cs) 0) c.args.octets.now.items new) (c.is_fixed-fixed.ensures ∙ ap Oer.is_fixed c.sizes-sizes.ensures) c.in_ok-push_narrow_string.ensures.text)
 

@@ -16,7 +16,8 @@ use Rattle.oer_codec_writing.proofs.character_string.push_utf8.Goals as goal
 pub returns-then-not-admits-clause-text : goal.returns-then-not-admits-clause-text
 returns-then-not-admits-clause-text c =
     let z = sizes_of c.args.constraints.now.size in
-    characters_none utf8 z (alphabet_of c.args.constraints.now.permitted_alphabet) any_count c.args.value.now (ap (λ y. admits y any_count (length c.args.value.now)) (sym c.sizes-sizes.ensures) ∙ sym c.admits.ensures ∙ c.if-not-admits.true)
+    characters_none utf8 z (alphabet_of c.args.constraints.now.permitted_alphabet) any_count c.args.value.now
+    (ap (λ y. admits y any_count (length c.args.value.now)) (sym c.sizes-sizes.ensures) ∙ sym c.admits.ensures ∙ c.if-not-admits.true)
 
 pub returns-clause-text : goal.returns-clause-text
 returns-clause-text c =
@@ -24,7 +25,8 @@ returns-clause-text c =
     let os = c.args.value.now in
     let new = c.push_sized.new.octets.items in
     adds_same _ _ c.args.octets.now.items new
-    (characters_text utf8 z (alphabet_of c.args.constraints.now.permitted_alphabet) any_count os os (ap (λ y. admits y any_count (length os)) (sym c.sizes-sizes.ensures) ∙ sym c.admits.ensures ∙ c.if-not-admits.false) (is_utf8-from_IsUtf8 os c.utf8.value) refl)
+    (characters_text utf8 z (alphabet_of c.args.constraints.now.permitted_alphabet) any_count os os
+    (ap (λ y. admits y any_count (length os)) (sym c.sizes-sizes.ensures) ∙ sym c.admits.ensures ∙ c.if-not-admits.false) (is_utf8-from_IsUtf8 os c.utf8.value) refl)
     (subst (λ b. Adds (written (Oer.octets_form b os) 0) c.args.octets.now.items new) (c.is_fixed.ensures ∙ ap Oer.is_fixed c.sizes-sizes.ensures)
     (subst (λ l. Adds (written (Oer.octets_form c.is_fixed.result l) 0) c.args.octets.now.items new) c.as_bytes.ensures.value c.in_ok-push_sized.ensures.text))
 

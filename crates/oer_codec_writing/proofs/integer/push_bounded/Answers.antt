@@ -11,7 +11,8 @@ push_signed-requires c =
     let v = c.args.number in
     let b = c.args.bounds in
     let r = c.range_in_bytes-signed in
-    let fits = if_some r.result.1 (λ k. (signed_octets v ≤ k) × (k ≤ 16)) (λ k e. (signed_width (lower b) (upper b) v c.requires k (sym r.ensures.sign ∙ c.if-signed.true) (sym r.ensures.width ∙ e), width_few (lower b) (upper b) k (sym r.ensures.width ∙ e))) in
+    let fits = if_some r.result.1 (λ k. (signed_octets v ≤ k) × (k ≤ 16))
+    (λ k e. (signed_width (lower b) (upper b) v c.requires k (sym r.ensures.sign ∙ c.if-signed.true) (sym r.ensures.width ∙ e), width_few (lower b) (upper b) k (sym r.ensures.width ∙ e))) in
     subst (λ (z : ℤ). IfSome r.result.1 (λ k. (signed_octets z ≤ k) × (k ≤ 16))) (sym (to_z-of_z c.ranges.number)) fits
 
 pub push_natural-requires-clause-sign : goal.push_natural-requires-clause-sign

@@ -18,7 +18,8 @@ refused : (o : Option (Extensible Value)) (h : Range) (v : ℤ) → is_some o �
 refused None h v e l = cc
 refused (Some c) h v e l = wide_none c h v l
 
-unbounded : (o : Option (Extensible Value)) (h : Range) (v : ℤ) → is_some o ≡ false → is_within h v ≡ true → written (Oer.integer_form (bounds_of o) (held_of o h) v) 0 ≡ written (Oer.counted (signed_octets_of v)) 0
+unbounded : (o : Option (Extensible Value)) (h : Range) (v : ℤ) → is_some o ≡ false → is_within h v ≡ true →
+    written (Oer.integer_form (bounds_of o) (held_of o h) v) 0 ≡ written (Oer.counted (signed_octets_of v)) 0
 unbounded None h v e w = unbounded_text h v w ∙ signed_counted v
 unbounded (Some c) h v e w = cc
 
@@ -29,7 +30,8 @@ returns-in-Some-clause-text g c =
     let e = c.in-Some.ensures.number in
     let fits : FitsSigned w128 c.in-Some.number = subst (λ (z : ℤ). FitsSigned w128 z) (sym e) (held_within_wide (g.I.IntegerType.value c.args.value.now) (sym c.in-Some.ensures.fits)) in
     let t = to_z-of_z fits ∙ e in
-    subst (λ (z : ℤ). MatchResult c.push_number.result (λ _. Adds (written (Oer.integer_form (bounds_of o) (held_of o h) z) 0) c.args.octets.now.items c.push_number.new.octets.items) (Refuses (written (Oer.integer_form (bounds_of o) (held_of o h) z) 0))) t
+    subst (λ (z : ℤ). MatchResult c.push_number.result (λ _. Adds (written (Oer.integer_form (bounds_of o) (held_of o h) z) 0) c.args.octets.now.items
+    c.push_number.new.octets.items) (Refuses (written (Oer.integer_form (bounds_of o) (held_of o h) z) 0))) t
     (c.push_number.ensures.text h (ap (is_within h) t ∙ c.to_i128.ensures.within))
 
 pub returns-then-is_some-clause-text : goal.returns-then-is_some-clause-text
@@ -41,7 +43,8 @@ pub returns-clause-text : goal.returns-clause-text
 returns-clause-text g c =
     let old = c.args.octets.now.items in
     let new = c.push_counted.new.octets.items in
-    subst (λ t. Adds t old new) (sym (unbounded c.args.constraints.now.value g.I.IntegerType.held (g.I.IntegerType.value c.args.value.now) (sym c.is_some.ensures ∙ c.if-is_some.false) c.to_i128.ensures.within))
+    subst (λ t. Adds t old new)
+    (sym (unbounded c.args.constraints.now.value g.I.IntegerType.held (g.I.IntegerType.value c.args.value.now) (sym c.is_some.ensures ∙ c.if-is_some.false) c.to_i128.ensures.within))
     (subst (λ l. Adds (written (Oer.counted l) 0) old new) (c.as_slice.ensures ∙ c.to_signed_bytes_be.ensures.octets) c.in_ok-push_counted.ensures.text)
 
 pub returns-in_err-push_counted-clause-kept : goal.returns-in_err-push_counted-clause-kept

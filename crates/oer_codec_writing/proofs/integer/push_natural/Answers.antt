@@ -17,7 +17,9 @@ returns-in_ok-push_digits-in-Some-clause-text c =
     let old = c.args.octets.now.items in
     let new = c.push_digits.new.octets.items in
     subst (λ o. Adds (written (Oer.natural_form o v) 0) old new) (sym c.in-Some.is)
-    (adds_fixed_natural c.in-Some.width v old new c.requires.sign (c.in_ok-push_digits-in-Some.ensures.text ∙ ap (λ k. old ++ digits 256 k c.cast_unsigned-magnitude.result) c.from.ensures ∙ ap (λ b. old ++ digits 256 c.in-Some.width b) (c.cast_unsigned-magnitude.ensures ∙ ap (of_z w128) (to_z-of_z c.ranges.number))))
+    (adds_fixed_natural c.in-Some.width v old new c.requires.sign (c.in_ok-push_digits-in-Some.ensures.text ∙
+    ap (λ k. old ++ digits 256 k c.cast_unsigned-magnitude.result) c.from.ensures ∙
+    ap (λ b. old ++ digits 256 c.in-Some.width b) (c.cast_unsigned-magnitude.ensures ∙ ap (of_z w128) (to_z-of_z c.ranges.number))))
 
 pub returns-in_ok-push_counted_digits-in-None-clause-text : goal.returns-in_ok-push_counted_digits-in-None-clause-text
 returns-in_ok-push_counted_digits-in-None-clause-text c =
@@ -25,8 +27,10 @@ returns-in_ok-push_counted_digits-in-None-clause-text c =
     let old = c.args.octets.now.items in
     let new = c.push_counted_digits.new.octets.items in
     subst (λ o. Adds (written (Oer.natural_form o v) 0) old new) (sym c.in-None.is)
-    (adds_fewest_natural c.natural_len.result v old new c.requires.sign (c.natural_len.ensures.octets ∙ ap least_octets (c.cast_unsigned-magnitude.ensures ∙ ap (of_z w128) (to_z-of_z c.ranges.number)))
-    (subst (λ b. Adds (written (Oer.counted (digits 256 c.natural_len.result b)) 0) old new) (c.cast_unsigned-magnitude.ensures ∙ ap (of_z w128) (to_z-of_z c.ranges.number)) c.in_ok-push_counted_digits-in-None.ensures.text))
+    (adds_fewest_natural c.natural_len.result v old new c.requires.sign (c.natural_len.ensures.octets ∙
+    ap least_octets (c.cast_unsigned-magnitude.ensures ∙ ap (of_z w128) (to_z-of_z c.ranges.number)))
+    (subst (λ b. Adds (written (Oer.counted (digits 256 c.natural_len.result b)) 0) old new) (c.cast_unsigned-magnitude.ensures ∙
+    ap (of_z w128) (to_z-of_z c.ranges.number)) c.in_ok-push_counted_digits-in-None.ensures.text))
 
 pub returns-in_err-push_digits-in-Some-clause-kept : goal.returns-in_err-push_digits-in-Some-clause-kept
 returns-in_err-push_digits-in-Some-clause-kept c = though_refused _ c.in_err-push_digits-in-Some.ensures.kept

@@ -19,7 +19,8 @@ returns-in_default-clause-text c h w =
     let old = c.args.octets.now.items in
     let new = c.push_signed.new.octets.items in
     subst (λ (o : Option (Extensible Value)). Adds (written (Oer.integer_form (bounds_of o) (held_of o h) v) 0) old new) (sym c.in_default.is)
-    (adds_same _ (written (Oer.signed_form None v) 0) old new (unbounded_text h v w) (subst (λ (z : ℤ). Adds (written (Oer.signed_form None z) 0) old new) (to_z-of_z c.ranges.number) c.in_ok-push_signed.ensures.text))
+    (adds_same _ (written (Oer.signed_form None v) 0) old new (unbounded_text h v w)
+    (subst (λ (z : ℤ). Adds (written (Oer.signed_form None z) 0) old new) (to_z-of_z c.ranges.number) c.in_ok-push_signed.ensures.text))
 
 pub returns-then-is_some-clause-text : goal.returns-then-is_some-clause-text
 returns-then-is_some-clause-text c h w =

@@ -17,7 +17,8 @@ pub returns-clause-text : goal.returns-clause-text
 returns-clause-text c =
     let old = c.args.octets.now.items in
     let new = c.push_counted_digits.new.octets.items in
-    subst (λ t. Adds t old new) (sym (if_true (is_count_within (members_of c.args.held) c.args.count) (Oer.unsigned c.args.count) (sym c.holds.ensures ∙ c.if-not-holds.false) ∙ natural_counted (pos c.args.count) refl))
+    subst (λ t. Adds t old new)
+    (sym (if_true (is_count_within (members_of c.args.held) c.args.count) (Oer.unsigned c.args.count) (sym c.holds.ensures ∙ c.if-not-holds.false) ∙ natural_counted (pos c.args.count) refl))
     (subst (λ k. Adds (written (Oer.counted (digits 256 k c.args.count)) 0) old new) c.natural_len.ensures.octets c.in_ok-push_counted_digits.ensures.text)
 
 pub returns-then-not-holds-clause-kept : goal.returns-then-not-holds-clause-kept

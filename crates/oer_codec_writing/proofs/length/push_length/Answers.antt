@@ -6,7 +6,8 @@ use Rattle.asn1_values_identifiers.proofs.Begins.{begins_behind, begins_same}
 use Rattle.oer_codec_writing.proofs.length.push_length.Goals as goal
 
 pub returns-in-Some-clause-text : goal.returns-in-Some-clause-text
-returns-in-Some-clause-text c = adds_text _ _ c.args.octets.now.items c.push.new.self.items (short_length c.args.length c.in-Some.ensures.some.1) (c.in_ok-push.ensures.items ∙ ap (λ n. c.args.octets.now.items ++ n ∷ []) c.in-Some.ensures.some.0)
+returns-in-Some-clause-text c = adds_text _ _ c.args.octets.now.items c.push.new.self.items (short_length c.args.length c.in-Some.ensures.some.1)
+    (c.in_ok-push.ensures.items ∙ ap (λ n. c.args.octets.now.items ++ n ∷ []) c.in-Some.ensures.some.0)
 
 pub returns-clause-text : goal.returns-clause-text
 returns-clause-text c =

@@ -19,7 +19,8 @@ returns-clause-text c =
     let os = contents c.in-Some.parts.0 c.in-Some.parts.1.now in
     adds_same _ _ old new (identifier_text c.args.value.now c.in-Some.ensures.identifier)
     (subst (λ l. Adds (written (Oer.counted l) 0) old new) (sym c.in-Some.ensures.octets)
-    (adds_counted os old mid new (contents_octets c.in-Some.parts.0 c.in-Some.parts.1.now) (subst (λ n. Adds (written (Oer.length_form n) 0) old mid) c.content_count.ensures c.in_ok-push_length.ensures.text) c.in_ok-push_contents.ensures.text))
+    (adds_counted os old mid new (contents_octets c.in-Some.parts.0 c.in-Some.parts.1.now)
+    (subst (λ n. Adds (written (Oer.length_form n) 0) old mid) c.content_count.ensures c.in_ok-push_length.ensures.text) c.in_ok-push_contents.ensures.text))
 
 pub returns-in_default-clause-text : goal.returns-in_default-clause-text
 returns-in_default-clause-text c = one_arc c.args.value.now c.in_default.ensures.none
@@ -28,7 +29,8 @@ pub returns-in_err-push_length-clause-kept : goal.returns-in_err-push_length-cla
 returns-in_err-push_length-clause-kept c = though_refused _ c.in_err-push_length.ensures.kept
 
 pub returns-in_err-push_contents-clause-kept : goal.returns-in_err-push_contents-clause-kept
-returns-in_err-push_contents-clause-kept c = though_refused _ (begins_behind_text _ c.args.octets.now.items c.push_length.new.octets.items _ c.in_ok-push_length.ensures.text c.in_err-push_contents.ensures.kept)
+returns-in_err-push_contents-clause-kept c = though_refused _
+    (begins_behind_text _ c.args.octets.now.items c.push_length.new.octets.items _ c.in_ok-push_length.ensures.text c.in_err-push_contents.ensures.kept)
 
 pub returns-in_default-clause-kept : goal.returns-in_default-clause-kept
 returns-in_default-clause-kept c = begins_same _ _ refl

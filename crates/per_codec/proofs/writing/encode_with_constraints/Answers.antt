@@ -7,14 +7,23 @@ use Rattle.per_codec.proofs.Encoding.{written_all, refused_all}
 use Rattle.per_codec.proofs.writing.encode_with_constraints.Goals as goal
 
 pub returns-in-Err-clause-only : goal.returns-in-Err-clause-only
-returns-in-Err-clause-only g c = refused_all (is_aligned (variant_of c.args.options)) (g.T.Described.under (meant c.args.constraints.now)) (g.T.Described.meaning c.args.value.now) c.new_with_output-encoder.result c.in-Err.error c.refusal.result c.new_with_output-encoder.ensures (g.T.Described.valued_under (meant c.args.constraints.now) c.args.value.now) c.in-Err.ensures.only (record { length = c.refusal.ensures.length; platform = c.refusal.ensures.platform; place = c.refusal.ensures.place; others = c.refusal.ensures.others })
+returns-in-Err-clause-only g c = refused_all (is_aligned (variant_of c.args.options)) (g.T.Described.under (meant c.args.constraints.now))
+    (g.T.Described.meaning c.args.value.now) c.new_with_output-encoder.result c.in-Err.error c.refusal.result c.new_with_output-encoder.ensures
+    (g.T.Described.valued_under (meant c.args.constraints.now) c.args.value.now) c.in-Err.ensures.only
+    (record { length = c.refusal.ensures.length; platform = c.refusal.ensures.platform; place = c.refusal.ensures.place; others = c.refusal.ensures.others })
 
 pub returns-in_ok-octets-in-Ok-clause-ok : goal.returns-in_ok-octets-in-Ok-clause-ok
 returns-in_ok-octets-in-Ok-clause-ok g c =
-    let w = written_all (is_aligned (variant_of c.args.options)) (g.T.Described.under (meant c.args.constraints.now)) (g.T.Described.meaning c.args.value.now) c.new_with_output-encoder.result c.encode_with_constraints.new.encoder c.new_with_output-encoder.ensures (g.T.Described.valued_under (meant c.args.constraints.now) c.args.value.now) c.in-Ok.ensures.ok in
-    encoded (packed_rules (is_aligned (variant_of c.args.options))) (g.T.Described.under (meant c.args.constraints.now)) (g.T.Described.meaning c.args.value.now) _ c.in_ok-octets-in-Ok.octets.items c.within_limit.result w.2 (c.in_ok-octets-in-Ok.ensures.octets w.0 w.1) c.within_limit.ensures
+    let w = written_all (is_aligned (variant_of c.args.options)) (g.T.Described.under (meant c.args.constraints.now))
+    (g.T.Described.meaning c.args.value.now) c.new_with_output-encoder.result c.encode_with_constraints.new.encoder
+    c.new_with_output-encoder.ensures (g.T.Described.valued_under (meant c.args.constraints.now) c.args.value.now) c.in-Ok.ensures.ok in
+    encoded (packed_rules (is_aligned (variant_of c.args.options))) (g.T.Described.under (meant c.args.constraints.now))
+    (g.T.Described.meaning c.args.value.now) _ c.in_ok-octets-in-Ok.octets.items c.within_limit.result w.2 (c.in_ok-octets-in-Ok.ensures.octets w.0 w.1) c.within_limit.ensures
 
 pub returns-in_ok-octets-in-Ok-clause-only : goal.returns-in_ok-octets-in-Ok-clause-only
 returns-in_ok-octets-in-Ok-clause-only g c =
-    let w = written_all (is_aligned (variant_of c.args.options)) (g.T.Described.under (meant c.args.constraints.now)) (g.T.Described.meaning c.args.value.now) c.new_with_output-encoder.result c.encode_with_constraints.new.encoder c.new_with_output-encoder.ensures (g.T.Described.valued_under (meant c.args.constraints.now) c.args.value.now) c.in-Ok.ensures.ok in
-    not_encoded (packed_rules (is_aligned (variant_of c.args.options))) (g.T.Described.under (meant c.args.constraints.now)) (g.T.Described.meaning c.args.value.now) _ c.in_ok-octets-in-Ok.octets.items c.within_limit.result w.2 w.3 (c.in_ok-octets-in-Ok.ensures.octets w.0 w.1) c.within_limit.ensures
+    let w = written_all (is_aligned (variant_of c.args.options)) (g.T.Described.under (meant c.args.constraints.now))
+    (g.T.Described.meaning c.args.value.now) c.new_with_output-encoder.result c.encode_with_constraints.new.encoder
+    c.new_with_output-encoder.ensures (g.T.Described.valued_under (meant c.args.constraints.now) c.args.value.now) c.in-Ok.ensures.ok in
+    not_encoded (packed_rules (is_aligned (variant_of c.args.options))) (g.T.Described.under (meant c.args.constraints.now))
+    (g.T.Described.meaning c.args.value.now) _ c.in_ok-octets-in-Ok.octets.items c.within_limit.result w.2 w.3 (c.in_ok-octets-in-Ok.ensures.octets w.0 w.1) c.within_limit.ensures

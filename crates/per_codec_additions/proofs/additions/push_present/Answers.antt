@@ -9,7 +9,8 @@ push-requires c = kept_at c.args.shared.now c.args.slots.now c.loop-slot.slot-in
 pub loop-slot-preserved : goal.loop-slot-preserved
 loop-slot-preserved c = λ new p.
     let slot = c.in_ok-push.ensures in
-    c.loop-slot.invariant new (slot_next (is_aligned c.args.variant) c.args.shared.now c.args.slots.now c.loop-slot.slot-index _ _ c.loop-slot.output c.push.new.output new c.loop-slot-test.true refl slot.present slot.absent p)
+    c.loop-slot.invariant new (slot_next (is_aligned c.args.variant) c.args.shared.now c.args.slots.now c.loop-slot.slot-index _ _ c.loop-slot.output
+    c.push.new.output new c.loop-slot-test.true refl slot.present slot.absent p)
 
 pub returns : goal.returns
 returns c = c.loop-slot.invariant c.loop-slot.output (slots_passed (is_aligned c.args.variant) c.args.shared.now c.args.slots.now c.loop-slot.slot-index c.loop-slot.output c.loop-slot-test.false)

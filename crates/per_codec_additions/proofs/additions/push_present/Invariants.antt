@@ -6,4 +6,5 @@ use Rattle.per_codec_rules.specs.Variants.{is_aligned}
 use Rattle.per_codec_additions.proofs.additions.push_present.Given as goal
 
 abbrev pub invariant-loop-slot : goal.invariant-loop-slot
-invariant-loop-slot l = (new : Packed) → Present (is_aligned l.variant) (all_bits l.shared (drop l.slot-index l.slots)) l.output new → Present (is_aligned l.variant) (all_bits l.shared l.slots) l.fn.output new
+invariant-loop-slot l = (new : Packed) → Present (is_aligned l.variant) (all_bits l.shared (drop l.slot-index l.slots)) l.output new →
+    Present (is_aligned l.variant) (all_bits l.shared l.slots) l.fn.output new

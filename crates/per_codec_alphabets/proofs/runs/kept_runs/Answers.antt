@@ -17,8 +17,10 @@ loop-character-preserved g c =
       | then-contains_char+else-from-next+in_ok-push_character w ↦
           let more = filter_more test cs i _ c.loop-character-test.true refl (sym w.if-contains_char.ensures) in
           rw (w.runs-is, w.next-is) (record {
-            same = one_kept test cs i _ (runs_of c.loop-character.runs.items) (runs_of w.push_character.new.runs.items) c.loop-character-test.true refl (sym w.if-contains_char.ensures) c.loop-character.invariant.same w.in_ok-push_character.ensures;
-            ascending = rw (more, w.from-next.ensures) (ascends_more (filter test (take i cs)) c.loop-character.next _ (omega (arith, w.from.ensures, w.if-from-next.false)) c.loop-character.invariant.ascending);
+            same = one_kept test cs i _ (runs_of c.loop-character.runs.items) (runs_of w.push_character.new.runs.items) c.loop-character-test.true
+                refl (sym w.if-contains_char.ensures) c.loop-character.invariant.same w.in_ok-push_character.ensures;
+            ascending = rw (more, w.from-next.ensures) (ascends_more (filter test (take i cs)) c.loop-character.next _
+                (omega (arith, w.from.ensures, w.if-from-next.false)) c.loop-character.invariant.ascending);
           })
       | else-contains_char w ↦
           let same = filter_same test cs i _ c.loop-character-test.true refl (sym w.if-contains_char.ensures) in
@@ -42,6 +44,7 @@ returns-clause-characters g c =
     let test = is_among (characters_of g.S.StaticPermittedAlphabet.kind) in
     let cs = c.args.characters.now in
     let all : take c.loop-character.character-index cs ≡ cs = all_taken cs c.loop-character.character-index c.loop-character-test.false in
-    let up : are_ascending ltb (filter test cs) ≡ true = ascends_front (filter test cs) c.loop-character.next (subst (λ l. are_ascending ltb (filter test l ++ c.loop-character.next ∷ []) ≡ true) all c.loop-character.invariant.ascending) in
+    let up : are_ascending ltb (filter test cs) ≡ true = ascends_front (filter test cs) c.loop-character.next
+    (subst (λ l. are_ascending ltb (filter test l ++ c.loop-character.next ∷ []) ≡ true) all c.loop-character.invariant.ascending) in
     let order : sorted (filter test cs) ≡ filter test cs = ascending_order (filter test cs) up in
     subst (λ l. SameCharacters (runs_of c.loop-character.runs.items) (singles l)) (ap (filter test) all ∙ sym order) c.loop-character.invariant.same

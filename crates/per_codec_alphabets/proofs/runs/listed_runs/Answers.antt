@@ -11,7 +11,8 @@ loop-character-preserved g c =
     let i = c.loop-character.character-index in
     let cs = c.args.characters.now in
     elim c.if-contains_char.branch [
-      | then-contains_char+in_ok-push_character w ↦ rw w.runs-is (one_kept test cs i _ (runs_of c.loop-character.runs.items) (runs_of w.push_character.new.runs.items) c.loop-character-test.true refl (sym w.if-contains_char.ensures) c.loop-character.invariant w.in_ok-push_character.ensures)
+      | then-contains_char+in_ok-push_character w ↦ rw w.runs-is (one_kept test cs i _ (runs_of c.loop-character.runs.items)
+          (runs_of w.push_character.new.runs.items) c.loop-character-test.true refl (sym w.if-contains_char.ensures) c.loop-character.invariant w.in_ok-push_character.ensures)
       | else-contains_char w ↦ rw w.runs-is (one_left test cs i _ (runs_of c.loop-character.runs.items) c.loop-character-test.true refl (sym w.if-contains_char.ensures) c.loop-character.invariant)
     ]
 

@@ -13,6 +13,7 @@ loop-place-preserved c =
     let here : get_or cs i 0 ≡ a + i = omega (arith, c.if-from-place.false, c.from.ensures, c.from-in-loop-place.ensures) in
     let one : i + 1 ≡ suc i = omega arith in
     record {
-      all = take_more cs i 0 c.loop-place-test.true ∙ ap (λ l. l ++ get_or cs i 0 ∷ []) c.loop-place.invariant.all ∙ ap (λ d. range_with_len a i ++ d ∷ []) here ∙ sym (counted_end a i) ∙ ap (range_with_len a) (sym one);
+      all = take_more cs i 0 c.loop-place-test.true ∙ ap (λ l. l ++ get_or cs i 0 ∷ []) c.loop-place.invariant.all ∙
+          ap (λ d. range_with_len a i ++ d ∷ []) here ∙ sym (counted_end a i) ∙ ap (range_with_len a) (sym one);
       each = each_more cs a i c.loop-place.invariant.each here;
     }

@@ -8,10 +8,12 @@ use Rattle.per_codec_decoder.proofs.TooShort.{counted_still_short, fragment_pass
 use Rattle.per_codec_decoder.proofs.missing.pass_fragment.Goals as goal
 
 pub returns-in_default-clause-only : goal.returns-in_default-clause-only
-returns-in_default-clause-only c = λ a f. counted_still_short (freedoms c.args.rules) (is_aligned c.args.rules) 8 c.args.determinant a c.args.cursor.now c.lacking-missing.result f (subst (λ n. c.lacking-missing.result ≤ n * 8 - length c.args.cursor.now.1 - 1) c.count.ensures.count c.lacking-missing.ensures)
+returns-in_default-clause-only c = λ a f. counted_still_short (freedoms c.args.rules) (is_aligned c.args.rules) 8 c.args.determinant a
+    c.args.cursor.now c.lacking-missing.result f (subst (λ n. c.lacking-missing.result ≤ n * 8 - length c.args.cursor.now.1 - 1) c.count.ensures.count c.lacking-missing.ensures)
 
 pub returns-in_default-take-clause-only : goal.returns-in_default-take-clause-only
-returns-in_default-take-clause-only c = λ a f. counted_still_short (freedoms c.args.rules) (is_aligned c.args.rules) 8 c.args.determinant a c.args.cursor.now c.lacking-missing.result f (subst (λ n. c.lacking-missing.result ≤ n * 8 - length c.args.cursor.now.1 - 1) c.count.ensures.count c.lacking-missing.ensures)
+returns-in_default-take-clause-only c = λ a f. counted_still_short (freedoms c.args.rules) (is_aligned c.args.rules) 8 c.args.determinant a
+    c.args.cursor.now c.lacking-missing.result f (subst (λ n. c.lacking-missing.result ≤ n * 8 - length c.args.cursor.now.1 - 1) c.count.ensures.count c.lacking-missing.ensures)
 
 pub returns-clause-ok : goal.returns-clause-ok
 returns-clause-ok c = λ a n f s.

@@ -1,5 +1,5 @@
 use Rattle.std.proofs.Common.{drop}
-use Rattle.per_codec_packing.specs.Whole.{AreWhole}
+use Rattle.per_codec_packing.specs.WholeOctets.{AreWhole}
 use Rattle.per_codec_packing.proofs.field_list_view.are_whole.Given as goal
 
 abbrev pub invariant-loop-padding : goal.invariant-loop-padding

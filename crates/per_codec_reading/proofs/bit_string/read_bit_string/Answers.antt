@@ -9,7 +9,7 @@ use Rattle.per_codec_laws.specs.Takes.{Front}
 use Rattle.per_codec_reading.specs.Fronts.{freedoms, is_aligned}
 use Rattle.per_codec_reading.proofs.Fronts.{misses_also}
 use Rattle.per_codec_reading.specs.Runs.{units_in}
-use Rattle.per_codec_reading.specs.Sizes.{contents_have_padding, sized_units}
+use Rattle.per_codec_reading.specs.Headings.{contents_have_padding, sized_units}
 use Rattle.per_codec_reading.specs.declared.sized.Contents.TheVariants.{Strings}
 use Rattle.per_codec_reading.proofs.StringFronts.{bit_string_stands, no_bit_string}
 use Rattle.per_codec_reading.proofs.bit_string.read_bit_string.Goals as goal

@@ -19,4 +19,5 @@ returns-in_err-is_outside-clause-only c =
     let p = err_from_is_err_and c.from_residual.result c.from_residual.ensures.1 in
     let f = freedoms c.args.rules in
     let a = c.args.cursor.now in
-    rw (p.1, p.2) (misses_also f one_bit (extension_bit c.args.is_extensible) a a _ (λ n x b g. n x b (subst (λ t. Front f (extension_bit t x) a b) c.if-not-is_extensible.false g)) c.in_err-is_outside.ensures.only)
+    rw (p.1, p.2) (misses_also f one_bit (extension_bit c.args.is_extensible) a a _ (λ n x b g.
+    n x b (subst (λ t. Front f (extension_bit t x) a b) c.if-not-is_extensible.false g)) c.in_err-is_outside.ensures.only)

@@ -26,4 +26,5 @@ into_octets-requires c =
 pub returns-clause-ok : goal.returns-clause-ok
 returns-clause-ok c =
     let run = c.in_ok-units.units in
-    octets_front (freedoms c.args.rules) (is_aligned c.args.rules) (units_in run) (cow_slice_items c.in_ok-octets.octets) c.args.cursor.now c.read_counted.new.cursor c.in_ok-units.ensures.ok c.in_ok-octets.ensures.small c.in_ok-octets.ensures.octets
+    octets_front (freedoms c.args.rules) (is_aligned c.args.rules) (units_in run) (cow_slice_items c.in_ok-octets.octets) c.args.cursor.now
+    c.read_counted.new.cursor c.in_ok-units.ensures.ok c.in_ok-octets.ensures.small c.in_ok-octets.ensures.octets

@@ -16,7 +16,9 @@ returns-in_err-read_padding-clause-only c =
     rw (p.1, p.2) (misses_also f (Per.at_octet al) (length_form al) a a _ (no_length_at_all f al a) c.in_err-read_padding.ensures.only)
 
 pub returns-clause-ok : goal.returns-clause-ok
-returns-clause-ok c = ok_also c.read_unaligned_length.result (λ l. length_after (freedoms c.args.rules) (is_aligned c.args.rules) l c.args.cursor.now c.read_padding.new.cursor c.read_unaligned_length.new.cursor c.in_ok-read_padding.ensures.ok) c.read_unaligned_length.ensures.ok
+returns-clause-ok c = ok_also c.read_unaligned_length.result
+    (λ l. length_after (freedoms c.args.rules) (is_aligned c.args.rules) l c.args.cursor.now c.read_padding.new.cursor
+    c.read_unaligned_length.new.cursor c.in_ok-read_padding.ensures.ok) c.read_unaligned_length.ensures.ok
 
 pub returns-clause-only : goal.returns-clause-only
 returns-clause-only c =
@@ -24,4 +26,5 @@ returns-clause-only c =
     let al = is_aligned c.args.rules in
     let a = c.args.cursor.now in
     let m = c.read_padding.new.cursor in
-    err_also c.read_unaligned_length.result (λ e. misses_also f (length_form false) (length_form al) m a e (no_length_behind f al a m c.in_ok-read_padding.ensures.ok)) c.read_unaligned_length.ensures.only
+    err_also c.read_unaligned_length.result (λ e. misses_also f (length_form false) (length_form al) m a e
+    (no_length_behind f al a m c.in_ok-read_padding.ensures.ok)) c.read_unaligned_length.ensures.only

@@ -19,17 +19,22 @@ returns-in_err-second-clause-only c =
     let p = err_from_is_err_and c.from_residual-in_err-second.result c.from_residual-in_err-second.ensures.1 in
     let q = c.in_err-second.ensures.short in
     let n = c.if-first-lt128.false in
-    rw (p.1, p.2, q.0) (no_second (freedoms c.args.rules) c.in_ok-first.field-0 c.args.cursor.now c.take_number.new.self c.in_ok-first.ensures.fits (omega arith) c.if-first-lt192.true c.in_ok-first.ensures.digits q.1)
+    rw (p.1, p.2, q.0) (no_second (freedoms c.args.rules) c.in_ok-first.field-0 c.args.cursor.now c.take_number.new.self c.in_ok-first.ensures.fits
+    (omega arith) c.if-first-lt192.true c.in_ok-first.ensures.digits q.1)
 
 pub returns-then-first-lt192-clause-ok : goal.returns-then-first-lt192-clause-ok
 returns-then-first-lt192-clause-ok c =
     let n = c.if-first-lt128.false in
-    long_read (freedoms c.args.rules) c.in_ok-first.field-0 c.in_ok-second.field-0 c.args.cursor.now c.take_number.new.self c.take_number-then-first-lt192.new.self (sym c.if-not-is_accepted.ensures) (omega arith) c.if-first-lt192.true c.in_ok-second.ensures.fits c.in_ok-first.ensures.digits c.in_ok-second.ensures.digits
+    long_read (freedoms c.args.rules) c.in_ok-first.field-0 c.in_ok-second.field-0 c.args.cursor.now c.take_number.new.self
+    c.take_number-then-first-lt192.new.self (sym c.if-not-is_accepted.ensures) (omega arith) c.if-first-lt192.true c.in_ok-second.ensures.fits
+    c.in_ok-first.ensures.digits c.in_ok-second.ensures.digits
 
 pub returns-then-not-is_accepted-clause-only : goal.returns-then-not-is_accepted-clause-only
 returns-then-not-is_accepted-clause-only c =
     let n = c.if-first-lt128.false in
-    not_two_octets (freedoms c.args.rules) c.in_ok-first.field-0 c.in_ok-second.field-0 c.args.cursor.now c.take_number.new.self c.take_number-then-first-lt192.new.self (sym c.if-not-is_accepted.ensures) (omega arith) c.if-first-lt192.true c.in_ok-second.ensures.fits c.in_ok-first.ensures.digits c.in_ok-second.ensures.digits
+    not_two_octets (freedoms c.args.rules) c.in_ok-first.field-0 c.in_ok-second.field-0 c.args.cursor.now c.take_number.new.self
+    c.take_number-then-first-lt192.new.self (sym c.if-not-is_accepted.ensures) (omega arith) c.if-first-lt192.true c.in_ok-second.ensures.fits
+    c.in_ok-first.ensures.digits c.in_ok-second.ensures.digits
 
 pub returns-then-multiple-lt1-clause-only : goal.returns-then-multiple-lt1-clause-only
 returns-then-multiple-lt1-clause-only c =

@@ -18,7 +18,8 @@ returns-then-not-is_aligned-clause-ok c =
       | then-not-is_aligned-via-then-not-is_aligned w ↦ inl (sym w.if-not-is_aligned.ensures)
       | then-not-is_aligned-via-else-not-is_aligned+then-span-lt255 w ↦ inr w.if-span-lt255.true
     ] in
-    ok_also c.read_number_within.result (λ n x. few_read f al c.args.span n a b few (subst (λ w. Front f (number_within w c.args.span n) a b) c.bit_count.ensures.value x)) c.read_number_within.ensures.ok
+    ok_also c.read_number_within.result
+    (λ n x. few_read f al c.args.span n a b few (subst (λ w. Front f (number_within w c.args.span n) a b) c.bit_count.ensures.value x)) c.read_number_within.ensures.ok
 
 pub returns-then-not-is_aligned-clause-only : goal.returns-then-not-is_aligned-clause-only
 returns-then-not-is_aligned-clause-only c =
@@ -29,12 +30,14 @@ returns-then-not-is_aligned-clause-only c =
       | then-not-is_aligned-via-then-not-is_aligned w ↦ inl (sym w.if-not-is_aligned.ensures)
       | then-not-is_aligned-via-else-not-is_aligned+then-span-lt255 w ↦ inr w.if-span-lt255.true
     ] in
-    err_also c.read_number_within.result (λ e. misses_also f (number_within c.bit_count.result c.args.span) (Per.constrained al c.args.span) a a e (λ n. few_missed f al c.args.span a few (subst (λ w. NoneStands f (number_within w c.args.span) a) c.bit_count.ensures.value n))) c.read_number_within.ensures.only
+    err_also c.read_number_within.result (λ e. misses_also f (number_within c.bit_count.result c.args.span) (Per.constrained al c.args.span) a a e
+    (λ n. few_missed f al c.args.span a few (subst (λ w. NoneStands f (number_within w c.args.span) a) c.bit_count.ensures.value n))) c.read_number_within.ensures.only
 
 pub returns-then-span-eq255-clause-ok : goal.returns-then-span-eq255-clause-ok
 returns-then-span-eq255-clause-ok c =
     let l = c.if-span-eq255.true in
-    ok_also c.read_aligned_within.result (λ n. one_read (freedoms c.args.rules) (is_aligned c.args.rules) c.args.span n c.args.cursor.now c.read_aligned_within.new.cursor c.if-not-is_aligned.ensures l) c.read_aligned_within.ensures.ok
+    ok_also c.read_aligned_within.result (λ n. one_read (freedoms c.args.rules) (is_aligned c.args.rules) c.args.span n c.args.cursor.now
+    c.read_aligned_within.new.cursor c.if-not-is_aligned.ensures l) c.read_aligned_within.ensures.ok
 
 pub returns-then-span-eq255-clause-only : goal.returns-then-span-eq255-clause-only
 returns-then-span-eq255-clause-only c =
@@ -43,13 +46,16 @@ returns-then-span-eq255-clause-only c =
     let a = c.args.cursor.now in
     let s = c.args.span in
     let l = c.if-span-eq255.true in
-    err_also c.read_aligned_within.result (λ e. misses_also f (aligned_within al 8 s) (Per.constrained al s) a a e (one_missed f al s a c.if-not-is_aligned.ensures l)) c.read_aligned_within.ensures.only
+    err_also c.read_aligned_within.result (λ e. misses_also f (aligned_within al 8 s) (Per.constrained al s) a a e
+    (one_missed f al s a c.if-not-is_aligned.ensures l)) c.read_aligned_within.ensures.only
 
 pub returns-then-span-lt-LONG_SPAN-clause-ok : goal.returns-then-span-lt-LONG_SPAN-clause-ok
 returns-then-span-lt-LONG_SPAN-clause-ok c =
     let g = c.if-span-lt255.false in
     let n = c.if-span-eq255.false in
-    ok_also c.read_aligned_within-then-span-lt-LONG_SPAN.result (λ d. two_read (freedoms c.args.rules) (is_aligned c.args.rules) c.args.span d c.args.cursor.now c.read_aligned_within-then-span-lt-LONG_SPAN.new.cursor c.if-not-is_aligned.ensures (omega arith) c.if-span-lt-LONG_SPAN.true) c.read_aligned_within-then-span-lt-LONG_SPAN.ensures.ok
+    ok_also c.read_aligned_within-then-span-lt-LONG_SPAN.result (λ d.
+    two_read (freedoms c.args.rules) (is_aligned c.args.rules) c.args.span d c.args.cursor.now
+    c.read_aligned_within-then-span-lt-LONG_SPAN.new.cursor c.if-not-is_aligned.ensures (omega arith) c.if-span-lt-LONG_SPAN.true) c.read_aligned_within-then-span-lt-LONG_SPAN.ensures.ok
 
 pub returns-then-span-lt-LONG_SPAN-clause-only : goal.returns-then-span-lt-LONG_SPAN-clause-only
 returns-then-span-lt-LONG_SPAN-clause-only c =
@@ -59,10 +65,14 @@ returns-then-span-lt-LONG_SPAN-clause-only c =
     let s = c.args.span in
     let g = c.if-span-lt255.false in
     let n = c.if-span-eq255.false in
-    err_also c.read_aligned_within-then-span-lt-LONG_SPAN.result (λ e. misses_also f (aligned_within al 16 s) (Per.constrained al s) a a e (two_missed f al s a c.if-not-is_aligned.ensures (omega arith) c.if-span-lt-LONG_SPAN.true)) c.read_aligned_within-then-span-lt-LONG_SPAN.ensures.only
+    err_also c.read_aligned_within-then-span-lt-LONG_SPAN.result
+    (λ e. misses_also f (aligned_within al 16 s) (Per.constrained al s) a a e
+    (two_missed f al s a c.if-not-is_aligned.ensures (omega arith) c.if-span-lt-LONG_SPAN.true)) c.read_aligned_within-then-span-lt-LONG_SPAN.ensures.only
 
 pub returns-clause-ok : goal.returns-clause-ok
-returns-clause-ok c = ok_also c.read_octets_within.result (λ d x. subst (λ al. Front (freedoms c.args.rules) (Per.constrained al c.args.span d) c.args.cursor.now c.read_octets_within.new.cursor) c.if-not-is_aligned.ensures x) c.read_octets_within.ensures.ok
+returns-clause-ok c = ok_also c.read_octets_within.result (λ d x.
+    subst (λ al. Front (freedoms c.args.rules) (Per.constrained al c.args.span d) c.args.cursor.now c.read_octets_within.new.cursor) c.if-not-is_aligned.ensures x) c.read_octets_within.ensures.ok
 
 pub returns-clause-only : goal.returns-clause-only
-returns-clause-only c = subst (λ al. IfErr c.read_octets_within.result (Misses (freedoms c.args.rules) (Per.constrained al c.args.span) c.args.cursor.now)) c.if-not-is_aligned.ensures c.read_octets_within.ensures.only
+returns-clause-only c = subst
+    (λ al. IfErr c.read_octets_within.result (Misses (freedoms c.args.rules) (Per.constrained al c.args.span) c.args.cursor.now)) c.if-not-is_aligned.ensures c.read_octets_within.ensures.only

@@ -19,13 +19,15 @@ pub returns-then-not-are_accepted-clause-only : goal.returns-then-not-are_accept
 returns-then-not-are_accepted-clause-only c =
     let m = c.free_bits-count.ensures in
     let n = c.position.ensures in
-    λ u b f. not_padding (freedoms c.args.rules) (bits_of c.in_ok-bits.bits) c.args.cursor.now c.take.new.self (rw (sym n) (c.in_ok-bits.ensures.count ∙ m)) c.in_ok-bits.ensures.bits (λ z. false≢true (c.if-not-are_accepted.ensures.1 z)) b f
+    λ u b f. not_padding (freedoms c.args.rules) (bits_of c.in_ok-bits.bits) c.args.cursor.now c.take.new.self
+    (rw (sym n) (c.in_ok-bits.ensures.count ∙ m)) c.in_ok-bits.ensures.bits (λ z. false≢true (c.if-not-are_accepted.ensures.1 z)) b f
 
 pub returns-clause-ok : goal.returns-clause-ok
 returns-clause-ok c =
     let m = c.free_bits-count.ensures in
     let n = c.position.ensures in
-    padding_in (freedoms c.args.rules) (bits_of c.in_ok-bits.bits) c.args.cursor.now c.take.new.self (c.if-not-are_accepted.ensures.0 refl) (rw (sym n) (c.in_ok-bits.ensures.count ∙ m)) c.in_ok-bits.ensures.bits
+    padding_in (freedoms c.args.rules) (bits_of c.in_ok-bits.bits) c.args.cursor.now c.take.new.self (c.if-not-are_accepted.ensures.0 refl)
+    (rw (sym n) (c.in_ok-bits.ensures.count ∙ m)) c.in_ok-bits.ensures.bits
 
 pub returns-then-count-eq0-clause-ok : goal.returns-then-count-eq0-clause-ok
 returns-then-count-eq0-clause-ok c =

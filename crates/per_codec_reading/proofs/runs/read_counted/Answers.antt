@@ -24,4 +24,5 @@ pub returns-clause-only : goal.returns-clause-only
 returns-clause-only c = err_also c.read_units_behind.result (λ e g. g c.args.cursor.now c.in_ok-length.ensures.ok) c.read_units_behind.ensures.only
 
 pub returns-clause-last : goal.returns-clause-last
-returns-clause-last c = ok_also c.read_units_behind.result (λ run g. lent_behind (freedoms c.args.rules) _ run.bits c.args.cursor.now c.read_length.new.cursor c.read_units_behind.new.cursor c.in_ok-length.ensures.ok g) c.read_units_behind.ensures.last
+returns-clause-last c = ok_also c.read_units_behind.result (λ run g.
+    lent_behind (freedoms c.args.rules) _ run.bits c.args.cursor.now c.read_length.new.cursor c.read_units_behind.new.cursor c.in_ok-length.ensures.ok g) c.read_units_behind.ensures.last

@@ -17,14 +17,16 @@ returns-in_err-piece-clause-only c =
     let w = c.args.width in
     let m = c.args.multiple in
     let s = c.fragments in
-    rw (p.1, p.2) (misses_also f (piece_form al w) (units_after (f Per.other_fragments) m al w) s.cursor c.args.cursor.now _ (joins_stop f al w m s.last (m * 16384, bits_of c.args.bits) (s.total, s.joined) c.args.cursor.now s.cursor s.invariant) c.in_err-piece.ensures.only)
+    rw (p.1, p.2) (misses_also f (piece_form al w) (units_after (f Per.other_fragments) m al w) s.cursor c.args.cursor.now _
+    (joins_stop f al w m s.last (m * 16384, bits_of c.args.bits) (s.total, s.joined) c.args.cursor.now s.cursor s.invariant) c.in_err-piece.ensures.only)
 
 pub returns-then-not-may_follow-clause-only : goal.returns-then-not-may_follow-clause-only
 returns-then-not-may_follow-clause-only c =
     let m = c.args.multiple in
     let s = c.fragments in
     let piece = c.in_ok-piece.piece in
-    joins_refused (freedoms c.args.rules) (is_aligned c.args.rules) c.args.width m s.last piece.length (bits_of piece.bits) (m * 16384, bits_of c.args.bits) (s.total, s.joined) c.args.cursor.now s.cursor c.read_piece.new.cursor (sym c.if-not-may_follow.ensures) s.invariant c.in_ok-piece.ensures.ok
+    joins_refused (freedoms c.args.rules) (is_aligned c.args.rules) c.args.width m s.last piece.length (bits_of piece.bits)
+    (m * 16384, bits_of c.args.bits) (s.total, s.joined) c.args.cursor.now s.cursor c.read_piece.new.cursor (sym c.if-not-may_follow.ensures) s.invariant c.in_ok-piece.ensures.ok
 
 pub returns-in-Short-clause-ok : goal.returns-in-Short-clause-ok
 returns-in-Short-clause-ok c =

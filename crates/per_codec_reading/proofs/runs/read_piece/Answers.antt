@@ -27,4 +27,5 @@ returns-in_err-bits-clause-only c =
 pub returns-clause-ok : goal.returns-clause-ok
 returns-clause-ok c =
     let q = c.in_ok-bits.ensures in
-    piece_in (freedoms c.args.rules) (is_aligned c.args.rules) c.args.width c.in_ok-length.length (bits_of c.in_ok-bits.bits) c.args.cursor.now c.read_length.new.cursor c.take.new.self c.in_ok-length.ensures.ok q.bits (q.count ∙ ap (λ k. k * c.args.width) c.count.ensures.count)
+    piece_in (freedoms c.args.rules) (is_aligned c.args.rules) c.args.width c.in_ok-length.length (bits_of c.in_ok-bits.bits) c.args.cursor.now
+    c.read_length.new.cursor c.take.new.self c.in_ok-length.ensures.ok q.bits (q.count ∙ ap (λ k. k * c.args.width) c.count.ensures.count)

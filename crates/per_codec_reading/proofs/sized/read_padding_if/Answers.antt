@@ -15,7 +15,8 @@ returns-in_err-read_padding-clause-only c =
     let al = is_aligned c.args.rules in
     let a = c.args.cursor.now in
     let e = padded_true al c.args.has_padding c.if-has_padding.true in
-    rw (p.1, p.2) (misses_also f (Per.at_octet al) (Per.at_octet (al && c.args.has_padding)) a a _ (λ n x b g. n x b (subst (λ t. Front f (Per.at_octet t x) a b) e g)) c.in_err-read_padding.ensures.only)
+    rw (p.1, p.2) (misses_also f (Per.at_octet al) (Per.at_octet (al && c.args.has_padding)) a a _
+    (λ n x b g. n x b (subst (λ t. Front f (Per.at_octet t x) a b) e g)) c.in_err-read_padding.ensures.only)
 
 pub returns-else-has_padding-clause-ok : goal.returns-else-has_padding-clause-ok
 returns-else-has_padding-clause-ok c =

@@ -7,7 +7,7 @@ use Rattle.per_codec_laws.proofs.Fronts.{split}
 use Rattle.per_codec_reading.specs.Fronts.{freedoms, is_aligned}
 use Rattle.per_codec_reading.proofs.Fronts.{misses_also}
 use Rattle.per_codec_reading.specs.Runs.{units_in, InOneRun}
-use Rattle.per_codec_reading.specs.Sizes.{contents_have_padding, determinant_form, heading_form, sized_units, units_told}
+use Rattle.per_codec_reading.specs.Headings.{contents_have_padding, determinant_form, heading_form, sized_units, units_by_length}
 use Rattle.per_codec_reading.proofs.LastFronts.{lent_behind}
 use Rattle.per_codec_reading.proofs.HeadingFronts.{in_one_run, bit_in_front}
 use Rattle.per_codec_reading.proofs.SizedFronts.{sized_in, no_heading, no_units, not_admitted, not_outside}
@@ -37,7 +37,8 @@ returns-in_err-run-clause-only c =
     let o = heading.is_outside in
     let a = c.args.cursor.now in
     let s = split f (extension_bit z.extensible o) (determinant_form al z.counts (told_highest o z.counts.high) heading.determinant) a c.read_heading.new.cursor c.in_ok-heading.ensures.ok in
-    rw (p.1, p.2) (misses_also f (units_told al w has_padding z.counts (told_highest o z.counts.high)) (sized_units al z h w has_padding) s.0 a _ (no_units f al z h w has_padding o a s.0 s.1) (c.in_err-run.ensures.only (told_highest o z.counts.high) s.0 s.2))
+    rw (p.1, p.2) (misses_also f (units_by_length al w has_padding z.counts (told_highest o z.counts.high)) (sized_units al z h w has_padding) s.0 a _
+    (no_units f al z h w has_padding o a s.0 s.1) (c.in_err-run.ensures.only (told_highest o z.counts.high) s.0 s.2))
 
 pub returns-then-not-is_admitted-clause-only : goal.returns-then-not-is_admitted-clause-only
 returns-then-not-is_admitted-clause-only c =
@@ -85,7 +86,8 @@ returns-clause-ok c =
     let a = c.args.cursor.now in
     let b = c.read_units.new.cursor in
     let s = split f (extension_bit z.extensible o) (determinant_form al z.counts (told_highest o z.counts.high) heading.determinant) a c.read_heading.new.cursor c.in_ok-heading.ensures.ok in
-    sized_in f al z h w has_padding us o a s.0 b (sym c.if-not-is_accepted_outside.ensures) s.1 (c.in_ok-run.ensures.ok (told_highest o z.counts.high) s.0 s.2) (sym c.if-not-is_admitted.ensures.counts)
+    sized_in f al z h w has_padding us o a s.0 b (sym c.if-not-is_accepted_outside.ensures) s.1
+    (c.in_ok-run.ensures.ok (told_highest o z.counts.high) s.0 s.2) (sym c.if-not-is_admitted.ensures.counts)
 
 pub returns-clause-lent : goal.returns-clause-lent
 returns-clause-lent c = λ one.
@@ -102,4 +104,5 @@ returns-clause-lent c = λ one.
     c.in_ok-run.ensures.lent (in_one_run f al z.counts (told_highest o z.counts.high) heading.determinant us.count s.0 m s.2 told)
 
 pub returns-clause-last : goal.returns-clause-last
-returns-clause-last c = lent_behind (freedoms c.args.rules) _ c.in_ok-run.run'.bits c.args.cursor.now c.read_heading.new.cursor c.read_units.new.cursor c.in_ok-heading.ensures.ok c.in_ok-run.ensures.last
+returns-clause-last c = lent_behind (freedoms c.args.rules) _ c.in_ok-run.run'.bits c.args.cursor.now c.read_heading.new.cursor
+    c.read_units.new.cursor c.in_ok-heading.ensures.ok c.in_ok-run.ensures.last

@@ -6,7 +6,7 @@ use Rattle.asn1_values_bits.specs.BitStr.{bits_of}
 use Rattle.per_codec_laws.specs.Takes.{Front}
 use Rattle.per_codec_reading.specs.Fronts.{freedoms, is_aligned, Completes}
 use Rattle.per_codec_reading.specs.Runs.{units_in}
-use Rattle.per_codec_reading.specs.Sizes.{contents_have_padding, determinant_form, units_told}
+use Rattle.per_codec_reading.specs.Headings.{contents_have_padding, determinant_form, units_by_length}
 use Rattle.per_codec_reading.proofs.HeadingFronts.{no_padding, no_bits, constrained_units, general_units, no_general_units}
 use Rattle.per_codec_reading.proofs.sized.read_units.Goals as goal
 use Rattle.asn1_model.specs.Form.{exactly}
@@ -20,7 +20,8 @@ returns-in_err-read_padding_if-in-Constrained-clause-only c =
     let has_padding = contents_have_padding c.args.contents w in
     let root = counts_of c.args.root in
     let m = c.args.cursor.now in
-    rw (p.1, p.2) (λ told a front. no_padding f al w has_padding root c.in-Constrained.count c.has_padding.result m _ c.has_padding.ensures c.in_err-read_padding_if-in-Constrained.ensures.only told a (subst (λ d. Front f (determinant_form al root told d) a m) c.in-Constrained.is front))
+    rw (p.1, p.2) (λ told a front. no_padding f al w has_padding root c.in-Constrained.count c.has_padding.result m _ c.has_padding.ensures
+    c.in_err-read_padding_if-in-Constrained.ensures.only told a (subst (λ d. Front f (determinant_form al root told d) a m) c.in-Constrained.is front))
 
 pub returns-in_err-bits-in-Constrained-clause-only : goal.returns-in_err-bits-in-Constrained-clause-only
 returns-in_err-bits-in-Constrained-clause-only c =
@@ -45,7 +46,8 @@ returns-in_err-run-in-General-clause-only c =
     let has_padding = contents_have_padding c.args.contents w in
     let root = counts_of c.args.root in
     let m = c.args.cursor.now in
-    rw (p.1, p.2) (λ told a front. no_general_units f al w has_padding root c.in-General.length m _ c.in_err-run-in-General.ensures.only told a (subst (λ d. Front f (determinant_form al root told d) a m) c.in-General.is front))
+    rw (p.1, p.2) (λ told a front. no_general_units f al w has_padding root c.in-General.length m _ c.in_err-run-in-General.ensures.only told a
+    (subst (λ d. Front f (determinant_form al root told d) a m) c.in-General.is front))
 
 pub returns-in_ok-bits-in-Constrained-clause-ok : goal.returns-in_ok-bits-in-Constrained-clause-ok
 returns-in_ok-bits-in-Constrained-clause-ok c =
@@ -61,7 +63,8 @@ returns-in_ok-bits-in-Constrained-clause-ok c =
     let b = c.take.new.self in
     let q = c.in_ok-bits-in-Constrained.ensures in
     let k = subst (λ t. Front f (Per.at_octet (al && t) (exactly [])) m o) c.has_padding.ensures c.in_ok-read_padding_if-in-Constrained.ensures.ok in
-    subst (λ d. (told : Option ℕ) → Completes f (determinant_form al root told d) (units_told al w has_padding root told (n, bs)) m b) (sym c.in-Constrained.is) (constrained_units f al w has_padding root n bs m o b k q.bits q.count)
+    subst (λ d. (told : Option ℕ) → Completes f (determinant_form al root told d) (units_by_length al w has_padding root told (n, bs)) m b)
+    (sym c.in-Constrained.is) (constrained_units f al w has_padding root n bs m o b k q.bits q.count)
 
 pub returns-in_ok-run-in-General-clause-ok : goal.returns-in_ok-run-in-General-clause-ok
 returns-in_ok-run-in-General-clause-ok c =
@@ -73,4 +76,5 @@ returns-in_ok-run-in-General-clause-ok c =
     let us = units_in c.in_ok-run-in-General.run' in
     let m = c.args.cursor.now in
     let b = c.read_units_behind.new.cursor in
-    subst (λ d. (told : Option ℕ) → Completes f (determinant_form al root told d) (units_told al w has_padding root told us) m b) (sym c.in-General.is) (general_units f al w has_padding root c.in-General.length us m b c.in_ok-run-in-General.ensures.ok)
+    subst (λ d. (told : Option ℕ) → Completes f (determinant_form al root told d) (units_by_length al w has_padding root told us) m b)
+    (sym c.in-General.is) (general_units f al w has_padding root c.in-General.length us m b c.in_ok-run-in-General.ensures.ok)

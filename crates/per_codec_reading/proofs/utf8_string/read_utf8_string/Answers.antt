@@ -39,4 +39,5 @@ returns-clause-ok c =
     let a = c.args.cursor.now in
     let b = c.read_counted_octets.new.cursor in
     let front = subst (λ os. Front f (Per.counted_octets al os) a b) (sym c.as_slice.ensures.value) c.in_ok-octets.ensures.ok in
-    subst (λ t. Front f (Per.form al (character_string utf8 z l any_count) (text t)) a b) (sym (c.in_ok-string.ensures.ok ∙ c.in-Some.ensures.text)) (text_stands f al z l c.as_slice.result.now a b (sym c.in-Some.ensures.utf8) front)
+    subst (λ t. Front f (Per.form al (character_string utf8 z l any_count) (text t)) a b) (sym (c.in_ok-string.ensures.ok ∙ c.in-Some.ensures.text))
+    (text_stands f al z l c.as_slice.result.now a b (sym c.in-Some.ensures.utf8) front)

@@ -7,7 +7,7 @@ use Rattle.asn1_model.specs.Per
 use Rattle.per_codec_laws.specs.Takes.{Front}
 use Rattle.per_codec_reading.specs.Fronts.{freedoms, is_aligned}
 use Rattle.per_codec_reading.proofs.Fronts.{misses_also}
-use Rattle.per_codec_reading_values.specs.Whole.{in_128_bits}
+use Rattle.per_codec_reading_values.specs.Integers.{in_128_bits}
 use Rattle.per_codec_reading_values.proofs.WholeFronts.{wide_in_front, up_to_read, up_to_missed, up_to_above}
 use Rattle.per_codec_reading_values.proofs.bounded.read_up_to.Goals as goal
 
@@ -37,4 +37,5 @@ returns-clause-ok c =
     let high = c.ranges.high in
     let number = wide_in_front f (Per.unconstrained al) c.in_ok-number.number a b c.in_ok-number.ensures.ok in
     let l : c.in_ok-number.number ≤ℤ c.args.high = grind (arith, ints, c.if-number-high.false) in
-    subst (λ z. Front f (in_128_bits (Per.whole_number al None (Some c.args.high)) z) a b) (sym (to_z-of_z w128 c.in_ok-number.number number)) (up_to_read f al c.args.high c.in_ok-number.number a b l c.in_ok-number.ensures.ok)
+    subst (λ z. Front f (in_128_bits (Per.whole_number al None (Some c.args.high)) z) a b) (sym (to_z-of_z w128 c.in_ok-number.number number))
+    (up_to_read f al c.args.high c.in_ok-number.number a b l c.in_ok-number.ensures.ok)

@@ -19,7 +19,8 @@ returns-in_err-octets-clause-only g c =
     let z = c.args._constraints.now.size in
     let l = c.args._constraints.now.permitted_alphabet in
     let a = c.args.cursor.now in
-    rw (p.1, p.2) (misses_also f (Per.counted_octets al) (Per.form al (character_string S.kind (sizes_of z) (alphabet_of l) any_count)) a a _ (no_codes f al S.kind z l c.requires.codes g.met.S.StaticPermittedAlphabet.holds a) c.in_err-octets.ensures.only)
+    rw (p.1, p.2) (misses_also f (Per.counted_octets al) (Per.form al (character_string S.kind (sizes_of z) (alphabet_of l) any_count)) a a _
+    (no_codes f al S.kind z l c.requires.codes g.met.S.StaticPermittedAlphabet.holds a) c.in_err-octets.ensures.only)
 
 pub returns-in-Ok-clause-ok : goal.returns-in-Ok-clause-ok
 returns-in-Ok-clause-ok g c =
@@ -31,7 +32,8 @@ returns-in-Ok-clause-ok g c =
     let a = c.args.cursor.now in
     let b = c.read_counted_octets.new.cursor in
     let front = subst (λ os. Front f (Per.counted_octets al os) a b) (sym c.as_slice.ensures.value) c.in_ok-octets.ensures.ok in
-    subst (λ x. Front f (Per.form al (character_string S.kind (sizes_of z) (alphabet_of l) any_count) (text x)) a b) (sym c.in-Ok.ensures.characters) (codes_stand f al S.kind z l c.requires.codes g.met.S.StaticPermittedAlphabet.holds c.as_slice.result.now a b c.in-Ok.ensures.permitted front)
+    subst (λ x. Front f (Per.form al (character_string S.kind (sizes_of z) (alphabet_of l) any_count) (text x)) a b) (sym c.in-Ok.ensures.characters)
+    (codes_stand f al S.kind z l c.requires.codes g.met.S.StaticPermittedAlphabet.holds c.as_slice.result.now a b c.in-Ok.ensures.permitted front)
 
 pub returns-clause-only : goal.returns-clause-only
 returns-clause-only g c =

@@ -32,4 +32,6 @@ returns-in-Ok-clause-ok g c =
     let l = alphabet_of c.args._constraints.now.permitted_alphabet in
     let a = c.args.cursor.now in
     let b = c.read_counted_octets.new.cursor in
-    subst (λ x. Front f (Per.form al (character_string S.kind z l any_count) (text x)) a b) (sym (c.in-Ok.ensures.characters ∙ c.as_slice.ensures.value)) (octets_stand f al S.kind z l c.requires.kind g.met.S.StaticPermittedAlphabet.holds (cow_slice_items c.in_ok-octets.octets) a b c.in_ok-octets.ensures.ok)
+    subst (λ x. Front f (Per.form al (character_string S.kind z l any_count) (text x)) a b)
+    (sym (c.in-Ok.ensures.characters ∙ c.as_slice.ensures.value))
+    (octets_stand f al S.kind z l c.requires.kind g.met.S.StaticPermittedAlphabet.holds (cow_slice_items c.in_ok-octets.octets) a b c.in_ok-octets.ensures.ok)

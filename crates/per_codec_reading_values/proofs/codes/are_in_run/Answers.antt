@@ -10,7 +10,8 @@ some_same : {x y : ℕ} → Some x ≡ Some y → x ≡ y
 some_same e = cc
 
 pub loop-octet-init : goal.loop-octet-init
-loop-octet-init g c = begins g.S.StaticPermittedAlphabet.kind c.args._alphabet.now (length c.args.octets.now) [] (octet_bits c.args.octets.now) refl (octets_whole c.args._alphabet.now c.args.octets.now c.requires.octet)
+loop-octet-init g c = begins g.S.StaticPermittedAlphabet.kind c.args._alphabet.now (length c.args.octets.now) [] (octet_bits c.args.octets.now) refl
+    (octets_whole c.args._alphabet.now c.args.octets.now c.requires.octet)
 
 pub returns-in_default-clause-stuck : goal.returns-in_default-clause-stuck
 returns-in_default-clause-stuck g c e =
@@ -22,7 +23,9 @@ returns-in_default-clause-stuck g c e =
     let x : c.from.result ≡ get_or os i 0 = c.from.ensures in
     let at : drop i os ≡ c.from.result ∷ drop (i + 1) os = drop_more os i 0 l ∙ ap (λ o. o ∷ drop (i + 1) os) (sym x) in
     let below : c.from.result < 2 ^ 8 = rw x small in
-    ends_without g.S.StaticPermittedAlphabet.kind a (length os) i _ _ (octet_bits os) c.loop-octet.invariant l _ c.from.result (octet_digits a c.requires.octet (drop i os) (drop (i + 1) os) c.from.result at) (octet_below a c.from.result c.requires.octet below) (λ d f p. c.in_default.ensures.alone d (sym (c.requires.codes d) ∙ f) p) refl
+    ends_without g.S.StaticPermittedAlphabet.kind a (length os) i _ _ (octet_bits os) c.loop-octet.invariant l _ c.from.result
+    (octet_digits a c.requires.octet (drop i os) (drop (i + 1) os) c.from.result at) (octet_below a c.from.result c.requires.octet below)
+    (λ d f p. c.in_default.ensures.alone d (sym (c.requires.codes d) ∙ f) p) refl
 
 pub loop-octet-preserved : goal.loop-octet-preserved
 loop-octet-preserved g c =
@@ -38,4 +41,7 @@ loop-octet-preserved g c =
     let found : code_of a d ≡ Some c.from.result = c.requires.codes d ∙ c.in-Some.ensures.found in
     let same : get_or os i 0 ≡ d = sym x ∙ some_same (of_number a d c.from.result c.requires.by_number found) in
     let more : take (i + 1) os ≡ take i os ++ d ∷ [] = take_more os i 0 l ∙ ap (λ o. take i os ++ o ∷ []) same in
-    goes_on g.S.StaticPermittedAlphabet.kind a (length os) i _ (octet_bits (drop i os)) (octet_bits os) c.loop-octet.invariant l _ c.from.result (octet_digits a c.requires.octet (drop i os) (drop (i + 1) os) c.from.result at) (octet_below a c.from.result c.requires.octet below) (λ d f p. c.in-Some.ensures.alone d (sym (c.requires.codes d) ∙ f) p) d (take (i + 1) os) _ more c.in-Some.ensures.permitted found (octet_behind a c.requires.octet (drop i os) (drop (i + 1) os) c.from.result at)
+    goes_on g.S.StaticPermittedAlphabet.kind a (length os) i _ (octet_bits (drop i os)) (octet_bits os) c.loop-octet.invariant l _ c.from.result
+    (octet_digits a c.requires.octet (drop i os) (drop (i + 1) os) c.from.result at) (octet_below a c.from.result c.requires.octet below)
+    (λ d f p. c.in-Some.ensures.alone d (sym (c.requires.codes d) ∙ f) p) d (take (i + 1) os) _ more c.in-Some.ensures.permitted found
+    (octet_behind a c.requires.octet (drop i os) (drop (i + 1) os) c.from.result at)

@@ -4,4 +4,5 @@ use Rattle.per_codec_reading_values.proofs.Steps.{Begun}
 use Rattle.per_codec_reading_values.proofs.codes.are_in_run.Given as goal
 
 abbrev pub invariant-loop-octet : goal.invariant-loop-octet
-invariant-loop-octet g l = Begun g.S.StaticPermittedAlphabet.kind l._alphabet (length l.octets) l.octet-index (take l.octet-index l.octets) (octet_bits (drop l.octet-index l.octets)) (octet_bits l.octets)
+invariant-loop-octet g l = Begun g.S.StaticPermittedAlphabet.kind l._alphabet (length l.octets) l.octet-index (take l.octet-index l.octets)
+    (octet_bits (drop l.octet-index l.octets)) (octet_bits l.octets)

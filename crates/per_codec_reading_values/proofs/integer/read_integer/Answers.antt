@@ -5,7 +5,7 @@ use Rattle.std.proofs.lemmas.Result.{err_from_is_err_and}
 use Rattle.asn1_model.specs.Per
 use Rattle.per_codec_reading.specs.Fronts.{freedoms, is_aligned}
 use Rattle.per_codec_reading.proofs.Fronts.{misses_also}
-use Rattle.per_codec_reading_values.specs.Whole.{number_octets, in_128_bits, under_constraint}
+use Rattle.per_codec_reading_values.specs.Integers.{number_octets, in_128_bits, under_constraint}
 use Rattle.per_codec_reading_values.proofs.IntegerFronts.{Integer, no_plain, plain_read, plain_refused, no_bounded, bounded_read, bounded_refused}
 use Rattle.per_codec_reading_values.proofs.WholeFronts.{wide_in_front}
 use Rattle.per_codec_reading_values.proofs.integer.read_integer.Goals as goal
@@ -26,7 +26,8 @@ returns-in_default-clause-ok g c =
     let a = c.args.cursor.now in
     let h = g.I.IntegerType.held in
     let v = c.as_slice.ensures.value in
-    rw c.in_default.is (plain_read f al c.number_from_octets.result g.I.IntegerType.value h c.as_slice.result.now a c.read_number_octets.new.cursor c.number_from_octets.ensures.value c.number_from_octets.ensures.held (rw v c.in_ok-octets.ensures.ok))
+    rw c.in_default.is (plain_read f al c.number_from_octets.result g.I.IntegerType.value h c.as_slice.result.now a c.read_number_octets.new.cursor
+    c.number_from_octets.ensures.value c.number_from_octets.ensures.held (rw v c.in_ok-octets.ensures.ok))
 
 pub returns-in_default-clause-only : goal.returns-in_default-clause-only
 returns-in_default-clause-only g c =
@@ -35,7 +36,8 @@ returns-in_default-clause-only g c =
     let a = c.args.cursor.now in
     let h = g.I.IntegerType.held in
     let v = c.as_slice.ensures.value in
-    rw c.in_default.is (plain_refused f al c.number_from_octets.result h c.as_slice.result.now a c.read_number_octets.new.cursor c.number_from_octets.ensures.refused c.number_from_octets.ensures.fresh (rw v c.in_ok-octets.ensures.ok))
+    rw c.in_default.is (plain_refused f al c.number_from_octets.result h c.as_slice.result.now a c.read_number_octets.new.cursor
+    c.number_from_octets.ensures.refused c.number_from_octets.ensures.fresh (rw v c.in_ok-octets.ensures.ok))
 
 pub returns-in_err-number-clause-only : goal.returns-in_err-number-clause-only
 returns-in_err-number-clause-only g c =
@@ -55,7 +57,8 @@ returns-clause-ok g c =
     let k = c.in-Some.constraint in
     let b = c.read_bounded.new.cursor in
     let q = to_z-of_z w128 c.in_ok-number.number (wide_in_front f (under_constraint al k) c.in_ok-number.number a b c.in_ok-number.ensures.ok) in
-    rw c.in-Some.is (bounded_read f al k c.held_number.result g.I.IntegerType.value g.I.IntegerType.held c.in_ok-number.number _ a b q c.held_number.ensures.value c.held_number.ensures.held c.in_ok-number.ensures.ok)
+    rw c.in-Some.is (bounded_read f al k c.held_number.result g.I.IntegerType.value g.I.IntegerType.held c.in_ok-number.number _ a b q
+    c.held_number.ensures.value c.held_number.ensures.held c.in_ok-number.ensures.ok)
 
 pub returns-clause-only : goal.returns-clause-only
 returns-clause-only g c =

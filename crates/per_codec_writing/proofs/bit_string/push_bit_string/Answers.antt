@@ -14,10 +14,12 @@ pub returns-in_err-push_sized : goal.returns-in_err-push_sized
 returns-in_err-push_sized c =
     let y = size_of c.sizes-sizes.result in
     let has_padding = c.string_has_padding-has_padding.ensures ∙ ap (λ n. Per.string_has_padding 1 n y.counts) c.len.ensures in
-    raised _ _ _ _ _ c.from_residual.ensures.1 (λ n. bit_string_field_list (is_aligned c.args.variant) (sizes_of c.args.constraints.now.size) y (counts_of c.args.held) (bits_of c.args.value) c.string_has_padding-has_padding.result (place c.args.output.now) c.sizes-sizes.ensures has_padding ∙ n) c.in_err-push_sized.ensures
+    raised _ _ _ _ _ c.from_residual.ensures.1 (λ n. bit_string_field_list (is_aligned c.args.variant) (sizes_of c.args.constraints.now.size) y
+    (counts_of c.args.held) (bits_of c.args.value) c.string_has_padding-has_padding.result (place c.args.output.now) c.sizes-sizes.ensures has_padding ∙ n) c.in_err-push_sized.ensures
 
 pub returns : goal.returns
 returns c =
     let y = size_of c.sizes-sizes.result in
     let has_padding = c.string_has_padding-has_padding.ensures ∙ ap (λ n. Per.string_has_padding 1 n y.counts) c.len.ensures in
-    adds_same _ _ c.args.output.now c.push_sized.new.output (bit_string_field_list (is_aligned c.args.variant) (sizes_of c.args.constraints.now.size) y (counts_of c.args.held) (bits_of c.args.value) c.string_has_padding-has_padding.result (place c.args.output.now) c.sizes-sizes.ensures has_padding) c.in_ok-push_sized.ensures
+    adds_same _ _ c.args.output.now c.push_sized.new.output (bit_string_field_list (is_aligned c.args.variant) (sizes_of c.args.constraints.now.size)
+    y (counts_of c.args.held) (bits_of c.args.value) c.string_has_padding-has_padding.result (place c.args.output.now) c.sizes-sizes.ensures has_padding) c.in_ok-push_sized.ensures

@@ -8,4 +8,5 @@ pub returns : goal.returns
 returns g c =
     let k = g.S.StaticPermittedAlphabet.kind in
     let a = c.args.units.now.alphabet.now in
-    sym (all_coded a (characters_of k) (g.S.StaticPermittedAlphabet.characters c.args.units.now.string.now) (subst (λ rs. SameCharacters a.runs rs) (c.is_narrowed.ensures c.if-is_narrowed.false k) c.requires) c.char_count-count.ensures.permitted)
+    sym (all_coded a (characters_of k) (g.S.StaticPermittedAlphabet.characters c.args.units.now.string.now)
+    (subst (λ rs. SameCharacters a.runs rs) (c.is_narrowed.ensures c.if-is_narrowed.false k) c.requires) c.char_count-count.ensures.permitted)

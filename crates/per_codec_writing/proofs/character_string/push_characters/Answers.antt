@@ -16,7 +16,8 @@ returns-then-is_of_octets g c =
     let k = g.S.StaticPermittedAlphabet.kind in
     let cs = g.S.StaticPermittedAlphabet.characters c.args.value.now in
     let holds : may_hold k cs ≡ true = g.met.S.StaticPermittedAlphabet.holds cs ∙ c.char_count-count.ensures.permitted in
-    let same = string_of_octets (is_aligned c.args.variant) k (sizes_of c.args.constraints.now.size) (alphabet_of c.args.constraints.now.permitted_alphabet) cs (place c.args.output.now) holds (sym c.if-is_of_octets.ensures) in
+    let same = string_of_octets (is_aligned c.args.variant) k (sizes_of c.args.constraints.now.size)
+    (alphabet_of c.args.constraints.now.permitted_alphabet) cs (place c.args.output.now) holds (sym c.if-is_of_octets.ensures) in
     adds_same _ _ c.args.output.now c.push_octets.new.output same c.in_ok-push_octets.ensures
 
 pub returns-in-Some : goal.returns-in-Some
@@ -27,7 +28,8 @@ returns-in-Some g c =
     let holds : may_hold k cs ≡ true = g.met.S.StaticPermittedAlphabet.holds cs ∙ permitted in
     let al = is_aligned c.args.variant in
     let same = string_as_octets al k c.args.constraints.now.size c.args.constraints.now.permitted_alphabet cs (place c.args.output.now) (sym c.if-is_encoded_as_octets.ensures) holds permitted in
-    adds_same _ _ c.args.output.now c.push_counted_octets.new.output (same ∙ ap (λ os. field_list_at (Per.counted_octets al os) (place c.args.output.now)) (sym c.in-Some.ensures)) c.in_ok-push_counted_octets.ensures
+    adds_same _ _ c.args.output.now c.push_counted_octets.new.output
+    (same ∙ ap (λ os. field_list_at (Per.counted_octets al os) (place c.args.output.now)) (sym c.in-Some.ensures)) c.in_ok-push_counted_octets.ensures
 
 pub returns-in_err-push_codes : goal.returns-in_err-push_codes
 returns-in_err-push_codes g c =
@@ -35,7 +37,8 @@ returns-in_err-push_codes g c =
     let k = g.S.StaticPermittedAlphabet.kind in
     let cs = g.S.StaticPermittedAlphabet.characters c.args.value.now in
     let holds : may_hold k cs ≡ true = g.met.S.StaticPermittedAlphabet.holds cs ∙ c.char_count-count.ensures.permitted in
-    let same = string_of_codes (is_aligned c.args.variant) k (sizes_of c.args.constraints.now.size) (alphabet_of c.args.constraints.now.permitted_alphabet) cs (place c.args.output.now) holds (sym c.if-is_of_octets.ensures) in
+    let same = string_of_codes (is_aligned c.args.variant) k (sizes_of c.args.constraints.now.size)
+    (alphabet_of c.args.constraints.now.permitted_alphabet) cs (place c.args.output.now) holds (sym c.if-is_of_octets.ensures) in
     rw (p.1, p.2) (refuses_also _ _ _ (λ e. same ∙ e) c.in_err-push_codes.ensures)
 
 pub returns : goal.returns
@@ -43,5 +46,6 @@ returns g c =
     let k = g.S.StaticPermittedAlphabet.kind in
     let cs = g.S.StaticPermittedAlphabet.characters c.args.value.now in
     let holds : may_hold k cs ≡ true = g.met.S.StaticPermittedAlphabet.holds cs ∙ c.char_count-count.ensures.permitted in
-    let same = string_of_codes (is_aligned c.args.variant) k (sizes_of c.args.constraints.now.size) (alphabet_of c.args.constraints.now.permitted_alphabet) cs (place c.args.output.now) holds (sym c.if-is_of_octets.ensures) in
+    let same = string_of_codes (is_aligned c.args.variant) k (sizes_of c.args.constraints.now.size)
+    (alphabet_of c.args.constraints.now.permitted_alphabet) cs (place c.args.output.now) holds (sym c.if-is_of_octets.ensures) in
     adds_same _ _ c.args.output.now c.push_codes.new.output same c.in_ok-push_codes.ensures

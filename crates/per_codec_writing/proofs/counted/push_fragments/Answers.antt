@@ -14,7 +14,8 @@ loop-due-preserved g c =
       within = omega (arith, at.invariant.within, at.invariant.due.all);
       due = record { all = next.due.all ∙ count; ready = next.due.ready };
       rest = λ new r. at.invariant.rest new
-          (fragment_added (is_aligned c.args.variant) us at.from at.due at.invariant.within at.invariant.due c.in_ok-due.due c.in-Some.count at.output c.push_range.new.output c.push_length_determinant.new.output new
+          (fragment_added (is_aligned c.args.variant) us at.from at.due at.invariant.within at.invariant.due c.in_ok-due.due c.in-Some.count at.output
+          c.push_range.new.output c.push_length_determinant.new.output new
           c.in-Some.is c.in_ok-push_range.ensures next.heads r);
     }
 
@@ -22,4 +23,5 @@ pub returns : goal.returns
 returns g c =
     let at = c.loop-due in
     at.invariant.rest c.push_range-2.new.output
-    (last_added (is_aligned c.args.variant) (g.U.Units.forms c.args.units.now) at.from at.due at.invariant.within at.invariant.due at.output c.push_range-2.new.output c.in_default.is c.in_ok-push_range-2.ensures)
+    (last_added (is_aligned c.args.variant) (g.U.Units.forms c.args.units.now) at.from at.due at.invariant.within at.invariant.due at.output
+    c.push_range-2.new.output c.in_default.is c.in_ok-push_range-2.ensures)

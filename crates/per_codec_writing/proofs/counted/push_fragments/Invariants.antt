@@ -9,7 +9,10 @@ abbrev pub invariant-loop-due : goal.invariant-loop-due
 invariant-loop-due g l = record {
   within : l.from ≤ length (g.U.Units.forms l.units);
   due : IsDue (length (g.U.Units.forms l.units) - l.from) l.due;
-  rest : (new : Packed) → Adds (field_list_at (form_due (is_aligned l.variant) l.due.units (determinants_of l.due.behind) (drop l.from (g.U.Units.forms l.units))) (place l.output)) l.output new → Adds (field_list_at (form_due (is_aligned l.variant) l.fn.first.units (determinants_of l.fn.first.behind) (g.U.Units.forms l.units)) (place l.fn.output)) l.fn.output new;
+  rest : (new : Packed) → Adds
+      (field_list_at (form_due (is_aligned l.variant) l.due.units (determinants_of l.due.behind) (drop l.from (g.U.Units.forms l.units)))
+      (place l.output)) l.output new →
+      Adds (field_list_at (form_due (is_aligned l.variant) l.fn.first.units (determinants_of l.fn.first.behind) (g.U.Units.forms l.units)) (place l.fn.output)) l.fn.output new;
 }
 
 abbrev pub decreases-loop-due : goal.decreases-loop-due

@@ -25,7 +25,8 @@ returns-in_default g c =
     let h = g.I.IntegerType.held in
     let old = c.args.output.now in
     let new = c.push_unconstrained.new.output in
-    subst (λ (o : Option (Extensible Value)). Adds (field_list_at (Per.form (is_aligned c.args.variant) (integer (bounds_of o) (held_of o h)) (number_value v)) (place old)) old new) (sym c.in_default.is)
+    subst (λ (o : Option (Extensible Value)).
+    Adds (field_list_at (Per.form (is_aligned c.args.variant) (integer (bounds_of o) (held_of o h)) (number_value v)) (place old)) old new) (sym c.in_default.is)
     (adds_same _ _ old new (unbounded_field_list (is_aligned c.args.variant) h v (place old) c.push_unconstrained.ensures.held) c.in_ok-push_unconstrained.ensures.written)
 
 pub returns-in_default-to_i128 : goal.returns-in_default-to_i128
@@ -54,6 +55,7 @@ returns g c =
     subst (λ (o : Option (Extensible Value)). Did c.push_bounded.result (field_list_at (Per.form al (integer (bounds_of o) (held_of o h)) (number_value v)) (place old)) old new) (sym c.in-Some.is)
     (did_same c.push_bounded.result _ _ old new
     (bounded_field_list al limits h v (place old) c.in-Some-to_i128.ensures.within wide
-    ∙ ap (λ y. field_list_at (Per.with_extension_bit (is_some limits.extensible) (admits_number bounds y) (Per.whole_number al (lower bounds) (upper bounds) y) (Per.unconstrained al y)) (place old)) (sym same)
+    ∙ ap (λ y. field_list_at (Per.with_extension_bit (is_some limits.extensible) (admits_number bounds y)
+    (Per.whole_number al (lower bounds) (upper bounds) y) (Per.unconstrained al y)) (place old)) (sym same)
     ∙ ap (λ b. field_list_at (Per.with_extension_bit b (admits_number bounds z) (Per.whole_number al (lower bounds) (upper bounds) z) (Per.unconstrained al z)) (place old)) (sym c.is_some.ensures))
     done)

@@ -19,7 +19,8 @@ returns-in-Some-Some c =
     let span = simp to_z-of_z at c.abs_diff.ensures in
     let offset = simp to_z-of_z at c.abs_diff-in-Some-Some.ensures in
     did_same c.push_constrained.result _ _ old c.push_constrained.new.output
-    (between_at (is_aligned c.args.variant) (lower c.args.bounds) (upper c.args.bounds) s.low s.high c.args.number c.abs_diff.result c.abs_diff-in-Some-Some.result (place old) (s.ensures ∙ c.as_start.ensures) (s.ensures' ∙ c.as_end.ensures) c.requires span offset)
+    (between_at (is_aligned c.args.variant) (lower c.args.bounds) (upper c.args.bounds) s.low s.high c.args.number c.abs_diff.result
+    c.abs_diff-in-Some-Some.result (place old) (s.ensures ∙ c.as_start.ensures) (s.ensures' ∙ c.as_end.ensures) c.requires span offset)
     c.push_constrained.ensures
 
 pub returns-in_ok-push_semi_constrained-in-Some-None : goal.returns-in_ok-push_semi_constrained-in-Some-None
@@ -30,7 +31,8 @@ returns-in_ok-push_semi_constrained-in-Some-None c =
     let low : SFits w128 s.low = search rules in
     let offset = simp to_z-of_z at c.abs_diff-in-Some-None.ensures in
     adds_same _ _ old c.push_semi_constrained.new.output
-    (from_at (is_aligned c.args.variant) (lower c.args.bounds) (upper c.args.bounds) s.low c.args.number c.abs_diff-in-Some-None.result (place old) (s.ensures ∙ c.as_start.ensures) (s.ensures' ∙ c.as_end.ensures) c.requires offset)
+    (from_at (is_aligned c.args.variant) (lower c.args.bounds) (upper c.args.bounds) s.low c.args.number c.abs_diff-in-Some-None.result (place old)
+    (s.ensures ∙ c.as_start.ensures) (s.ensures' ∙ c.as_end.ensures) c.requires offset)
     c.in_ok-push_semi_constrained-in-Some-None.ensures
 
 pub returns-in_ok-push_unconstrained-in-None-default : goal.returns-in_ok-push_unconstrained-in-None-default

@@ -13,4 +13,5 @@ returns-clause-written g c =
     let old = c.args.output.now in
     let new = c.push_counted_octets.new.output in
     adds_same _ _ old new (unconstrained_field_list (is_aligned c.args.variant) v (place old))
-    (subst (λ l. Adds (field_list_at (Per.counted_octets (is_aligned c.args.variant) l) (place old)) old new) (c.as_slice.ensures ∙ c.to_signed_bytes_be-octets.ensures.octets) c.in_ok-push_counted_octets.ensures)
+    (subst (λ l. Adds (field_list_at (Per.counted_octets (is_aligned c.args.variant) l) (place old)) old new)
+    (c.as_slice.ensures ∙ c.to_signed_bytes_be-octets.ensures.octets) c.in_ok-push_counted_octets.ensures)

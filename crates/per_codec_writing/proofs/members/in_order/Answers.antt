@@ -12,7 +12,8 @@ get-requires c =
 pub loop-entry-preserved : goal.loop-entry-preserved
 loop-entry-preserved c =
     let at = c.loop-entry in
-    next_of c.args.members.now c.deref-entry-items.result.now at.ordered.items c.push.new.self.items at.entry-index _ _ c.get.result c.loop-entry-test.true at.invariant refl c.get.ensures c.in_ok-push.ensures.items
+    next_of c.args.members.now c.deref-entry-items.result.now at.ordered.items c.push.new.self.items at.entry-index _ _ c.get.result
+    c.loop-entry-test.true at.invariant refl c.get.ensures c.in_ok-push.ensures.items
 
 pub returns : goal.returns
 returns c =

@@ -17,7 +17,8 @@ loop-octet-preserved c =
     let b : ℕ = c.args.base in
     let x : ℕ = c.saturating_sub-code.result in
     let less : x ≡ get_or os i 0 - b = omega (arith, c.saturating_sub-code.ensures) in
-    let joined : bit_or (v * 2 ^ w % 2 ^ 64) (bit_and x (1 * 2 ^ w % 2 ^ 64 - 1)) ≡ v * 2 ^ w + x % 2 ^ w = joined_digits n w v x 64 c.loop-octet.invariant.small (omega (arith, c.loop-octet.invariant.few)) (omega arith) in
+    let joined : bit_or (v * 2 ^ w % 2 ^ 64) (bit_and x (1 * 2 ^ w % 2 ^ 64 - 1)) ≡ v * 2 ^ w + x % 2 ^ w =
+    joined_digits n w v x 64 c.loop-octet.invariant.small (omega (arith, c.loop-octet.invariant.few)) (omega arith) in
     record {
       digits = ap (binary (n + w)) joined ∙ sym (binary_join n w v (x % 2 ^ w) (mod_below x (2 ^ w) (pow_pos w)))
           ∙ ap (λ l. binary n v ++ l) (binary_low w x ∙ ap (binary w) less) ∙ ap (λ l. l ++ low_bits b w (get_or os i 0)) c.loop-octet.invariant.digits

@@ -19,7 +19,8 @@ loop-rest-preserved c =
     let few : ℕ = c.min-few.result in
     let whole : take (length rest - few) (drop few rest) ≡ drop few rest = take_all (length rest - few) (drop few rest) (omega (arith, length-drop few rest)) in
     let joined : take few rest ++ take (length rest - few) (drop few rest) ≡ rest = ap (λ l. take few rest ++ l) whole ∙ take-append-drop few rest in
-    low_bits_moved (low_bits c.args.base c.args.width) rest _ _ _ c.loop-rest.output c.push_bits.new.self _ joined c.loop-rest.invariant c.joined_bits-number.ensures.digits c.in_ok-push_bits.ensures.ok
+    low_bits_moved (low_bits c.args.base c.args.width) rest _ _ _ c.loop-rest.output c.push_bits.new.self _ joined c.loop-rest.invariant
+    c.joined_bits-number.ensures.digits c.in_ok-push_bits.ensures.ok
 
 pub returns : goal.returns
 returns c = no_low_bits (low_bits c.args.base c.args.width) c.loop-rest.rest.now c.loop-rest.output _ c.loop-rest-test.false c.loop-rest.invariant

@@ -20,7 +20,8 @@ returns c =
     let others = c.in-Some.parts.1.now in
     adds_same _ _ old new (identifier_field_list al c.args.value.now (place old) c.in-Some.ensures.identifier)
     (subst (λ l. Adds (field_list_at (Per.counted_octets al l) (place old)) old new) (sym c.in-Some.ensures.octets)
-    (short_counted al (contents first others) c.content_count-count.result old mid new (contents_octets first others) c.content_count-count.ensures c.if-count-ge-FRAGMENT.false c.in_ok-push_short_length.ensures c.in_ok-push_contents.ensures))
+    (short_counted al (contents first others) c.content_count-count.result old mid new (contents_octets first others) c.content_count-count.ensures
+    c.if-count-ge-FRAGMENT.false c.in_ok-push_short_length.ensures c.in_ok-push_contents.ensures))
 
 pub returns-in_default : goal.returns-in_default
 returns-in_default c = one_arc (is_aligned c.args.variant) c.args.value.now (place c.args.output.now) c.in_default.ensures.none

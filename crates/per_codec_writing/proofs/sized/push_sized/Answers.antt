@@ -20,7 +20,9 @@ returns-in_err-due g c =
     let z = size_of c.args.sizes in
     let us = g.U.Units.forms c.args.units.now in
     let p = place c.args.output.now in
-    raised_on _ _ _ e.result e.ensures.0 e.ensures.1 (no_field_list _ _ (λ n. held_none al z (counts_of c.args.held) c.args.has_padding us p (size_none al z c.args.has_padding us c.count-count.result p c.count-count.ensures n)) _ c.in_err-due.ensures.heads)
+    raised_on _ _ _ e.result e.ensures.0 e.ensures.1
+    (no_field_list _ _ (λ n. held_none al z (counts_of c.args.held) c.args.has_padding us p
+    (size_none al z c.args.has_padding us c.count-count.result p c.count-count.ensures n)) _ c.in_err-due.ensures.heads)
 
 pub returns : goal.returns
 returns g c =
@@ -30,4 +32,5 @@ returns g c =
     let us = g.U.Units.forms c.args.units.now in
     let old = c.args.output.now in
     let new = c.push_due.new.output in
-    held_added al z (counts_of c.args.held) c.args.has_padding us old new (sym held ∙ c.if-not-holds.false) (size_added al z c.args.has_padding us c.count-count.result c.in_ok-due.due old c.push_heading.new.output new c.count-count.ensures c.in_ok-due.ensures.heads c.in_ok-push_due.ensures)
+    held_added al z (counts_of c.args.held) c.args.has_padding us old new (sym held ∙ c.if-not-holds.false)
+    (size_added al z c.args.has_padding us c.count-count.result c.in_ok-due.due old c.push_heading.new.output new c.count-count.ensures c.in_ok-due.ensures.heads c.in_ok-push_due.ensures)

@@ -7,4 +7,5 @@ pub returns-then-number-lt64 : goal.returns-then-number-lt64
 returns-then-number-lt64 c = adds_small (is_aligned c.args.variant) c.args.number c.args.output.now c.push_bits.new.self c.if-number-lt64.true c.in_ok-push_bits.ensures.ok
 
 pub returns : goal.returns
-returns c = adds_not_small (is_aligned c.args.variant) c.args.number c.args.output.now c.push.new.self c.push_semi_constrained.new.output (omega (arith, c.if-number-lt64.false)) c.in_ok-push.ensures.ok c.in_ok-push_semi_constrained.ensures
+returns c = adds_not_small (is_aligned c.args.variant) c.args.number c.args.output.now c.push.new.self c.push_semi_constrained.new.output
+    (omega (arith, c.if-number-lt64.false)) c.in_ok-push.ensures.ok c.in_ok-push_semi_constrained.ensures

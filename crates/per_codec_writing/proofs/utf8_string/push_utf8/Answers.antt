@@ -14,5 +14,6 @@ returns c =
     let old = c.args.output.now in
     let new = c.push_counted_octets.new.output in
     let os = c.args.value.now in
-    adds_same _ _ old new (utf8_field_list (is_aligned c.args.variant) (sizes_of c.args._constraints.now.size) (alphabet_of c.args._constraints.now.permitted_alphabet) os (place old) (is_utf8-from_IsUtf8 os c.utf8.value))
+    adds_same _ _ old new (utf8_field_list (is_aligned c.args.variant) (sizes_of c.args._constraints.now.size)
+    (alphabet_of c.args._constraints.now.permitted_alphabet) os (place old) (is_utf8-from_IsUtf8 os c.utf8.value))
     (subst (λ l. Adds (field_list_at (Per.counted_octets (is_aligned c.args.variant) l) (place old)) old new) c.as_bytes.ensures.value c.in_ok-push_counted_octets.ensures)

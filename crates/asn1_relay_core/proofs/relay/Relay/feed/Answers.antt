@@ -5,7 +5,7 @@ use Rattle.asn1_relay_core.specs.Coding.{rules_of}
 use Rattle.asn1_relay_core.specs.declared.fault.RelayFaultKind.TheVariants as kind
 use Rattle.asn1_relay_core.specs.declared.codec.Codec.{Codec}
 use Rattle.asn1_relay_core.specs.Relaying.{Relaying, kind_of_stop, onwards}
-use Rattle.asn1_relay_core.specs.Fronts.{Awaits, RelaysOne}
+use Rattle.asn1_relay_core.specs.Attempts.{Awaits, RelaysOne}
 use Rattle.asn1_relay_core.proofs.Feeding.{SoFar, one_more, stopped, grown_alike, nothing_fed, waited, awaits_on}
 use Rattle.asn1_relay_core.proofs.relay.Relay.feed.Goals as goal
 
@@ -31,9 +31,18 @@ returns-then-len-self-clause-ok g c =
     let most : old.number ≤ 18446744073709551615 = omega arith in
     let grown : c.extend_from_slice.new.self.items ≡ old.unread ++ piece = c.in-Ok.ensures.ok ∙ ap (λ l. l ++ piece) unread in
     let longer = ap length grown in
-    let now = ap (λ (u : List ℕ). let r : Relaying = record { from = way.from; to = way.to; limit = way.limit; unread = u; number = c.self.inside.number; failed = c.self.inside.failed } in r) c.in-Ok.ensures.ok
+    let now = ap (λ (u : List ℕ). let r : Relaying = record {
+      from = way.from;
+      to = way.to;
+      limit = way.limit;
+      unread = u;
+      number =
+          c.self.inside.number;
+      failed = c.self.inside.failed;
+    } in r) c.in-Ok.ensures.ok
     ∙ (ap (λ (r : Relaying). onwards r (r.unread ++ piece) r.number r.failed) c.self.view_is ∙ ap (λ b. onwards old (old.unread ++ piece) old.number b) had) in
-    let w : Awaits (rules_of old.from) s old.limit old.unread c.self.inside.awaited = subst (λ (r : Relaying). Awaits (rules_of r.from) s r.limit r.unread c.self.inside.awaited) c.self.view_is c.self.invariant.1 in
+    let w : Awaits (rules_of old.from) s old.limit old.unread c.self.inside.awaited =
+    subst (λ (r : Relaying). Awaits (rules_of r.from) s r.limit r.unread c.self.inside.awaited) c.self.view_is c.self.invariant.1 in
     let few = c.if-len-awaited.true in
     let first = c.len.ensures.value in
     let within = c.if-len-self.true in
@@ -45,17 +54,25 @@ loop-self-preserved g c =
     let s = g.T.Described.schema 128 in
     let way = c.self-in-loop-self.inside.way in
     let h = subst (λ r. SoFar s c.args.self.now r c.args.piece.now c.args.out.now.items c.loop-self.out.items) (sym c.self-in-loop-self.view_is) c.loop-self.invariant.1 in
-    let one = subst (λ u. RelaysOne (rules_of way.from) (rules_of way.to) s way.limit u c.loop-self.out.items c.relay_front.new.out.items c.in-Relayed.count) c.as_slice.ensures c.in-Relayed.ensures in
-    (c.loop-self.invariant.0, one_more s c.args.self.now c.args.piece.now c.args.out.now.items _ c.loop-self.out.items h _ c.relay_front.new.out.items c.in-Relayed.count one (cc (c.advance.ensures.items, c.saturating_add-self-inside.ensures)))
+    let one = subst (λ u. RelaysOne (rules_of way.from) (rules_of way.to) s way.limit u c.loop-self.out.items c.relay_front.new.out.items
+    c.in-Relayed.count) c.as_slice.ensures c.in-Relayed.ensures in (
+      c.loop-self.invariant.0,
+      one_more s c.args.self.now c.args.piece.now c.args.out.now.items _ c.loop-self.out.items h _ c.relay_front.new.out.items
+          c.in-Relayed.count one (cc (c.advance.ensures.items, c.saturating_add-self-inside.ensures)),
+    )
 
 pub returns-in-Stops-clause-only : goal.returns-in-Stops-clause-only
 returns-in-Stops-clause-only g c =
     let s = g.T.Described.schema 128 in
     let way = c.self-in-loop-self.inside.way in
-    let Cause : Codec → Codec → ℕ → List ℕ → Type 0 = λ a b l u. (c.in-Stops.kind ≡ kind.Memory) ⊎ ((why : Stop) × (c.in-Stops.kind ≡ kind_of_stop why) × StopsAt (rules_of a) (rules_of b) s l u (Some why)) in
+    let Cause : Codec → Codec → ℕ → List ℕ → Type 0 = λ a b l u.
+    (c.in-Stops.kind ≡ kind.Memory) ⊎ ((why : Stop) × (c.in-Stops.kind ≡ kind_of_stop why) × StopsAt (rules_of a) (rules_of b) s l u (Some why)) in
     let cause : Cause way.from way.to way.limit c.self-in-loop-self.inside.unread.items = subst (Cause way.from way.to way.limit) c.as_slice.ensures c.in-Stops.ensures.1 in
-    let here : Cause c.loop-self.self.from c.loop-self.self.to c.loop-self.self.limit c.loop-self.self.unread = subst (λ (r : Relaying). Cause r.from r.to r.limit r.unread) c.self-in-loop-self.view_is cause in
-    stopped s c.args.self.now c.args.piece.now c.args.out.now.items c.loop-self.self c.relay_front.new.out.items (grown_alike s c.args.self.now c.args.piece.now c.args.out.now.items c.loop-self.self c.loop-self.out.items c.relay_front.new.out.items c.loop-self.invariant.1 c.in-Stops.ensures.0) _ _ c.in-Stops.kind c.stop-in-Stops.ensures.stops c.stop-in-Stops.ensures.fault c.loop-self.invariant.0 here
+    let here : Cause c.loop-self.self.from c.loop-self.self.to c.loop-self.self.limit c.loop-self.self.unread =
+    subst (λ (r : Relaying). Cause r.from r.to r.limit r.unread) c.self-in-loop-self.view_is cause in
+    stopped s c.args.self.now c.args.piece.now c.args.out.now.items c.loop-self.self c.relay_front.new.out.items
+    (grown_alike s c.args.self.now c.args.piece.now c.args.out.now.items c.loop-self.self c.loop-self.out.items c.relay_front.new.out.items
+    c.loop-self.invariant.1 c.in-Stops.ensures.0) _ _ c.in-Stops.kind c.stop-in-Stops.ensures.stops c.stop-in-Stops.ensures.fault c.loop-self.invariant.0 here
 
 pub returns-then-is_empty-2-clause-ok : goal.returns-then-is_empty-2-clause-ok
 returns-then-is_empty-2-clause-ok g c =

@@ -10,7 +10,8 @@ pub returns-in_err-encode_extension_addition_group-clause-only : goal.returns-in
 returns-in_err-encode_extension_addition_group-clause-only g c = raised _ _ _ c.from_residual.ensures.1 (cannot_more_here _ _ _ c.in_err-encode_extension_addition_group.ensures.only)
 
 pub returns-in_err-write_additions-clause-only : goal.returns-in_err-write_additions-clause-only
-returns-in_err-write_additions-clause-only g c = let one = g.met.E.Encoder.one_after in raised _ _ _ c.from_residual-in_err-write_additions.ensures.1 (cannot_more one _ c.in_ok-encode_extension_addition_group.ensures.ok c.in_err-write_additions.ensures.only)
+returns-in_err-write_additions-clause-only g c = let one = g.met.E.Encoder.one_after in
+    raised _ _ _ c.from_residual-in_err-write_additions.ensures.1 (cannot_more one _ c.in_ok-encode_extension_addition_group.ensures.ok c.in_err-write_additions.ensures.only)
 
 pub returns-clause-ok : goal.returns-clause-ok
 returns-clause-ok g c = writes_more _ c.in_ok-encode_extension_addition_group.ensures.ok c.in_ok-write_additions.ensures.ok
@@ -22,5 +23,7 @@ returns-in_err-write_additions-clause-call g c =
       front = search rules;
       already = search rules;
       after = let law = g.met.E.Encoder.goes_on in
-          passed c.from_residual-in_err-write_additions.ensures.1 (λ e. failed_before_addition law (group_valued g.G.Group.parts _ g.G.Group.plain g.G.Group.each) c.in_ok-encode_extension_addition_group.ensures.ok (c.in_err-write_additions.ensures.call.after e));
+          passed c.from_residual-in_err-write_additions.ensures.1 (λ e.
+          failed_before_addition law (group_valued g.G.Group.parts _ g.G.Group.plain g.G.Group.each)
+          c.in_ok-encode_extension_addition_group.ensures.ok (c.in_err-write_additions.ensures.call.after e));
     }

@@ -8,7 +8,8 @@ pub returns-in_err-encode-clause-only : goal.returns-in_err-encode-clause-only
 returns-in_err-encode-clause-only g c = raised _ _ _ c.from_residual.ensures.1 (cannot_field_here _ _ _ _ (cannot_required g.T.Described.typed c.in_err-encode.ensures.only))
 
 pub returns-in_err-write_components-clause-only : goal.returns-in_err-write_components-clause-only
-returns-in_err-write_components-clause-only g c = let one = g.met.E.Encoder.one_after in raised _ _ _ c.from_residual-in_err-write_components.ensures.1 (cannot_field one _ (writes_required g.T.Described.typed c.in_ok-encode.ensures.ok) c.in_err-write_components.ensures.only)
+returns-in_err-write_components-clause-only g c = let one = g.met.E.Encoder.one_after in
+    raised _ _ _ c.from_residual-in_err-write_components.ensures.1 (cannot_field one _ (writes_required g.T.Described.typed c.in_ok-encode.ensures.ok) c.in_err-write_components.ensures.only)
 
 pub returns-clause-ok : goal.returns-clause-ok
 returns-clause-ok g c = writes_field _ (writes_required g.T.Described.typed c.in_ok-encode.ensures.ok) c.in_ok-write_components.ensures.ok

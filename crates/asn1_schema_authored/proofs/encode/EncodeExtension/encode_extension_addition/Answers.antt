@@ -5,7 +5,10 @@ use Rattle.asn1_schema_authored.proofs.Writing.{writes_addition, cannot_addition
 use Rattle.asn1_schema_authored.proofs.encode.EncodeExtension.encode_extension_addition.Goals as goal
 
 pub returns-in_err-encode_present_addition-clause-only : goal.returns-in_err-encode_present_addition-clause-only
-returns-in_err-encode_present_addition-clause-only g c = raised _ _ _ c.from_residual-in_err-encode_present_addition.ensures.1 (rw c.in-Some.is (cannot_addition optional _ (plain_noted g.T.Described.typed optional _ (λ n. refl)) g.T.Described.is_own (rw c.constraints.ensures at c.in_err-encode_present_addition.ensures.only)))
+returns-in_err-encode_present_addition-clause-only g c = raised _ _ _ c.from_residual-in_err-encode_present_addition.ensures.1
+    (rw c.in-Some.is (cannot_addition optional _ (plain_noted g.T.Described.typed optional _ (λ n. refl)) g.T.Described.is_own
+    (rw c.constraints.ensures at c.in_err-encode_present_addition.ensures.only)))
 
 pub returns-clause-ok : goal.returns-clause-ok
-returns-clause-ok g c = rw c.in-Some.is (writes_addition optional _ (plain_noted g.T.Described.typed optional _ (λ n. refl)) g.T.Described.is_own (rw c.constraints.ensures at c.in_ok-encode_present_addition.ensures.ok))
+returns-clause-ok g c = rw c.in-Some.is (writes_addition optional _ (plain_noted g.T.Described.typed optional _ (λ n. refl)) g.T.Described.is_own
+    (rw c.constraints.ensures at c.in_ok-encode_present_addition.ensures.ok))

@@ -6,7 +6,8 @@ pub returns-in_err-begin_set-clause-only : goal.returns-in_err-begin_set-clause-
 returns-in_err-begin_set-clause-only g c = raised _ _ _ c.from_residual.ensures.1 (cannot_set_here _ _ c.requires.presence_bits c.requires.marker _ _ c.in_err-begin_set.ensures.only)
 
 pub returns-in_err-encode_components-clause-only : goal.returns-in_err-encode_components-clause-only
-returns-in_err-encode_components-clause-only g c = let one = g.met.Self.Encoder.one_after in raised _ _ _ c.from_residual-in_err-encode_components.ensures.1 (cannot_set _ _ c.requires.presence_bits c.requires.marker one c.in_ok-begin_set.ensures.ok c.in_err-encode_components.ensures.only)
+returns-in_err-encode_components-clause-only g c = let one = g.met.Self.Encoder.one_after in
+    raised _ _ _ c.from_residual-in_err-encode_components.ensures.1 (cannot_set _ _ c.requires.presence_bits c.requires.marker one c.in_ok-begin_set.ensures.ok c.in_err-encode_components.ensures.only)
 
 pub returns-clause-ok : goal.returns-clause-ok
 returns-clause-ok g c = writes_set _ _ c.requires.presence_bits c.requires.marker c.in_ok-begin_set.ensures.ok c.in_ok-encode_components.ensures.ok

@@ -17,19 +17,19 @@ pub returns-in_err-value-clause-only : goal.returns-in_err-value-clause-only
 returns-in_err-value-clause-only g c = let one = g.met.Self.Decoder.one_record in let carries =
     g.met.Self.Decoder.records_carried in let values = g.met.Self.Decoder.values_carried in
     raised _ _ _ c.from_residual-in_err-value.ensures.1
-    (unread_default one carries (rw c.if-not-is_there.false at c.in_ok-is_there.ensures.ok) (rw c.in_ok-is_there.ensures.level at c.in_err-value.ensures.only))
+    (unread_default one carries (rw c.if-not-is_there.false at c.in_ok-is_there.ensures.ok) (rw c.in_ok-is_there.ensures.call.level at c.in_err-value.ensures.only))
 
 pub returns-in_err-note_default-clause-only : goal.returns-in_err-note_default-clause-only
 returns-in_err-note_default-clause-only g c =
     let one = g.met.Self.Decoder.one_record in let carries = g.met.Self.Decoder.records_carried in let values = g.met.Self.Decoder.values_carried in
     raised _ _ _ c.from_residual-in_err-note_default.ensures.1
     (unread_noted one carries values (sym c.is_default-is_default.ensures ∙ c.if-is_default.true)
-    (rw c.if-not-is_there.false at c.in_ok-is_there.ensures.ok) (rw c.in_ok-is_there.ensures.level at c.in_ok-value.ensures.ok) c.in_err-note_default.ensures.only)
+    (rw c.if-not-is_there.false at c.in_ok-is_there.ensures.ok) (rw c.in_ok-is_there.ensures.call.level at c.in_ok-value.ensures.ok) c.in_err-note_default.ensures.only)
 
 pub returns-clause-ok : goal.returns-clause-ok
 returns-clause-ok g c =
     let presence = rw c.if-not-is_there.false at c.in_ok-is_there.ensures.ok in
-    let read = rw c.in_ok-is_there.ensures.level at c.in_ok-value.ensures.ok in
+    let read = rw c.in_ok-is_there.ensures.call.level at c.in_ok-value.ensures.ok in
     elim c.if-is_default.branch [
       | then-is_default+in_ok-note_default w ↦ rw w.self-is (spelled_out (sym c.is_default-is_default.ensures ∙ w.if-is_default.true) _ (reads_present presence read) w.in_ok-note_default.ensures.ok)
       | else-is_default w ↦ rw w.self-is (other_value (sym c.is_default-is_default.ensures ∙ w.if-is_default.false) (reads_present presence read))
@@ -39,6 +39,7 @@ pub returns-in_err-note_default-clause-call : goal.returns-in_err-note_default-c
 returns-in_err-note_default-clause-call g c =
     record {
       failed = search rules;
+      level = search rules;
       already = search rules;
       after = let law = g.met.Self.Decoder.goes_on in
           passed_on _ c.from_residual-in_err-note_default.ensures.1

@@ -12,7 +12,7 @@ pub returns-in_err-value-clause-only : goal.returns-in_err-value-clause-only
 returns-in_err-value-clause-only g c = let one = g.met.Self.Decoder.one_record in let carries =
     g.met.Self.Decoder.records_carried in let values = g.met.Self.Decoder.values_carried in
     raised _ _ _ c.from_residual-in_err-value.ensures.1
-    (unread_optional one carries (rw c.if-not-present.false at c.in_ok-present.ensures.ok) (rw c.in_ok-present.ensures.level at c.in_err-value.ensures.only))
+    (unread_optional one carries (rw c.if-not-present.false at c.in_ok-present.ensures.ok) (rw c.in_ok-present.ensures.call.level at c.in_err-value.ensures.only))
 
 pub returns-clause-ok : goal.returns-clause-ok
-returns-clause-ok g c = reads_present (rw c.if-not-present.false at c.in_ok-present.ensures.ok) (rw c.in_ok-present.ensures.level at c.in_ok-value.ensures.ok)
+returns-clause-ok g c = reads_present (rw c.if-not-present.false at c.in_ok-present.ensures.ok) (rw c.in_ok-present.ensures.call.level at c.in_ok-value.ensures.ok)

@@ -9,7 +9,7 @@ pub returns-in_err-components-clause-only : goal.returns-in_err-components-claus
 returns-in_err-components-clause-only g c = let one = g.met.Self.Decoder.one_record in let carries =
     g.met.Self.Decoder.records_carried in let values = g.met.Self.Decoder.values_carried in
     raised _ _ _ c.from_residual-in_err-components.ensures.1
-    (unread_sequence one carries _ c.requires.presence_bits c.requires.plain c.in_ok-begin_sequence.ensures.level c.in_ok-begin_sequence.ensures.ok c.in_err-components.ensures.only)
+    (unread_sequence one carries _ c.requires.presence_bits c.requires.plain c.in_ok-begin_sequence.ensures.call.level c.in_ok-begin_sequence.ensures.ok c.in_err-components.ensures.only)
 
 pub returns-clause-ok : goal.returns-clause-ok
-returns-clause-ok g c = reads_sequence _ c.requires.presence_bits c.requires.plain c.in_ok-begin_sequence.ensures.level c.in_ok-begin_sequence.ensures.ok c.in_ok-components.ensures.ok
+returns-clause-ok g c = reads_sequence _ c.requires.presence_bits c.requires.plain c.in_ok-begin_sequence.ensures.call.level c.in_ok-begin_sequence.ensures.ok c.in_ok-components.ensures.ok

@@ -23,5 +23,6 @@ returns-in_err-encode_components-clause-call g c =
       already = search rules;
       after = let law = g.met.E.Encoder.goes_on in
           passed c.from_residual-in_err-encode_components.ensures.1
-          (λ e. failed_before_part law (part_optional g.T.Described.meaning _ g.T.Described.typed g.T.Described.valued) c.in_ok-encode_optional.ensures.ok (c.in_err-encode_components.ensures.call.after e));
+          (λ e. failed_before_part law (part_optional g.T.Described.meaning _ g.T.Described.typed g.T.Described.valued)
+          c.in_ok-encode_optional.ensures.ok (c.in_err-encode_components.ensures.call.after e));
     }

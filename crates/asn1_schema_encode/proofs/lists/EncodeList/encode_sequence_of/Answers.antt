@@ -51,8 +51,20 @@ returns-clause-ok g c = writes_list _ _ _ (rw (count_values g.T.Described.meanin
 
 pub returns-in_err-encode_further-clause-call : goal.returns-in_err-encode_further-clause-call
 returns-in_err-encode_further-clause-call g c =
-    record { failed = search rules; front = search rules; already = search rules; after = passed c.from_residual-in_err-encode_further.ensures.1 (λ e. absurd (c.loop-item.invariant.1 (c.in_err-encode_further.ensures.call.after e))) }
+    record {
+      failed = search rules;
+      front = search rules;
+      already = search rules;
+      after =
+          passed c.from_residual-in_err-encode_further.ensures.1 (λ e. absurd (c.loop-item.invariant.1 (c.in_err-encode_further.ensures.call.after e)));
+    }
 
 pub returns-in_err-encode_further-2-clause-call : goal.returns-in_err-encode_further-2-clause-call
 returns-in_err-encode_further-2-clause-call g c =
-    record { failed = search rules; front = search rules; already = search rules; after = passed c.from_residual-in_err-encode_further-2.ensures.1 (λ e. absurd (c.loop-item.invariant.1 (c.in_err-encode_further-2.ensures.call.after e))) }
+    record {
+      failed = search rules;
+      front = search rules;
+      already = search rules;
+      after =
+          passed c.from_residual-in_err-encode_further-2.ensures.1 (λ e. absurd (c.loop-item.invariant.1 (c.in_err-encode_further-2.ensures.call.after e)));
+    }

@@ -38,7 +38,7 @@ returns-in_err-begin_sequence-clause-only g t c = let one = g.met.D.Decoder.one_
     (unread_field_here _ _ (unread_present one carries optional refl (rw c.if-not-is_there.false at c.in_ok-is_there.ensures.ok)
     (unread_as _ _ chain_is (unread_sequence_here (chain_table chain_schema) _
     (c.number_of_optional_and_default_fields-optional.ensures ∙ count_presence_bits _ _ c.fields.ensures) refl
-    (rw (c.in_ok-is_there.ensures.level, c.in_ok-value.ensures.level) at c.in_err-begin_sequence.ensures.only))))))
+    (rw (c.in_ok-is_there.ensures.call.level, c.in_ok-value.ensures.call.level) at c.in_err-begin_sequence.ensures.only))))))
 
 pub returns-in_err-inner-clause-only : goal.returns-in_err-inner-clause-only
 returns-in_err-inner-clause-only g t c = let one = g.met.D.Decoder.one_record in let carries = g.met.D.Decoder.records_carried in
@@ -48,7 +48,7 @@ returns-in_err-inner-clause-only g t c = let one = g.met.D.Decoder.one_record in
     (unread_field_here _ _ (unread_present one carries optional refl (rw c.if-not-is_there.false at c.in_ok-is_there.ensures.ok)
     (unread_as _ _ chain_is (unread_sequence one carries (chain_table chain_schema)
     (c.number_of_optional_and_default_fields-optional.ensures ∙ count_presence_bits _ _ c.fields.ensures) refl
-    (rw (c.in_ok-is_there.ensures.level, c.in_ok-value.ensures.level) at c.in_ok-begin_sequence.ensures.level) c.in_ok-begin_sequence.ensures.ok c.in_err-inner.ensures.only)))))
+    (rw (c.in_ok-is_there.ensures.call.level, c.in_ok-value.ensures.call.level) at c.in_ok-begin_sequence.ensures.call.level) c.in_ok-begin_sequence.ensures.ok c.in_err-inner.ensures.only)))))
 
 pub returns-in_err-end-2-clause-only : goal.returns-in_err-end-2-clause-only
 returns-in_err-end-2-clause-only g t c = let one = g.met.D.Decoder.one_record in let carries = g.met.D.Decoder.records_carried in
@@ -59,7 +59,7 @@ returns-in_err-end-2-clause-only g t c = let one = g.met.D.Decoder.one_record in
     (rw c.if-not-is_there.false at c.in_ok-is_there.ensures.ok)
     (reads_as _ _ chain_is (reads_sequence (chain_table chain_schema) (c.number_of_optional_and_default_fields-optional.ensures
     ∙ count_presence_bits _ _ c.fields.ensures) refl
-    (rw (c.in_ok-is_there.ensures.level, c.in_ok-value.ensures.level) at c.in_ok-begin_sequence.ensures.level)
+    (rw (c.in_ok-is_there.ensures.call.level, c.in_ok-value.ensures.call.level) at c.in_ok-begin_sequence.ensures.call.level)
     c.in_ok-begin_sequence.ensures.ok c.in_ok-inner.ensures.ok)) refl) (unread_end _ c.in_err-end-2.ensures.only)))
 
 pub returns-clause-ok : goal.returns-clause-ok
@@ -68,13 +68,14 @@ returns-clause-ok g t c = rw chain_made (reads_field _ (reads_required number_ty
     (rw (c.in-Ok.ensures.ok, chain_opens) (reads_as _ _ chain_is
     (reads_sequence (chain_table chain_schema) (c.number_of_optional_and_default_fields-optional.ensures
     ∙ count_presence_bits _ _ c.fields.ensures) refl
-    (rw (c.in_ok-is_there.ensures.level, c.in_ok-value.ensures.level) at c.in_ok-begin_sequence.ensures.level)
+    (rw (c.in_ok-is_there.ensures.call.level, c.in_ok-value.ensures.call.level) at c.in_ok-begin_sequence.ensures.call.level)
     c.in_ok-begin_sequence.ensures.ok c.in_ok-inner.ensures.ok))) refl) (reads_end _ c.in_ok-end-2.ensures.ok)))
 
 pub returns-in_err-is_there-clause-call : goal.returns-in_err-is_there-clause-call
 returns-in_err-is_there-clause-call g t c =
     record {
       failed = search rules;
+      level = search rules;
       already = search rules;
       after = let law = g.met.D.Decoder.goes_on in
           passed_on _ c.from_residual-in_err-is_there.ensures.1 (λ h. failed_reads law c.in_ok-value.ensures.ok (c.in_err-is_there.ensures.call.after (ap (λ z. Err z) h)));
@@ -84,6 +85,7 @@ pub returns-in_err-end-2-clause-call : goal.returns-in_err-end-2-clause-call
 returns-in_err-end-2-clause-call g t c =
     record {
       failed = search rules;
+      level = search rules;
       already = search rules;
       after = let law = g.met.D.Decoder.goes_on in
           passed_on _ c.from_residual-in_err-end-2.ensures.1

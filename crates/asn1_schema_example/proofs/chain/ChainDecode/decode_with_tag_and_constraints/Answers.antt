@@ -5,10 +5,17 @@ use Rattle.asn1_schema_example.specs.Chain.{chain_table, chain_schema, chain_is,
 use Rattle.asn1_schema_example.proofs.chain.ChainDecode.decode_with_tag_and_constraints.Goals as goal
 
 pub returns-in_err-begin_sequence-clause-only : goal.returns-in_err-begin_sequence-clause-only
-returns-in_err-begin_sequence-clause-only g c = raised _ _ _ c.from_residual.ensures.1 (unread_as _ _ chain_is (unread_sequence_here (chain_table chain_schema) _ (c.number_of_optional_and_default_fields-optional.ensures ∙ count_presence_bits _ _ c.fields.ensures) refl c.in_err-begin_sequence.ensures.only))
+returns-in_err-begin_sequence-clause-only g c = raised _ _ _ c.from_residual.ensures.1
+    (unread_as _ _ chain_is (unread_sequence_here (chain_table chain_schema) _ (c.number_of_optional_and_default_fields-optional.ensures ∙
+    count_presence_bits _ _ c.fields.ensures) refl c.in_err-begin_sequence.ensures.only))
 
 pub returns-in_err-chain-clause-only : goal.returns-in_err-chain-clause-only
-returns-in_err-chain-clause-only g c = let one = g.met.D.Decoder.one_record in let carries = g.met.D.Decoder.records_carried in raised _ _ _ c.from_residual-in_err-chain.ensures.1 (unread_as _ _ chain_is (unread_sequence one carries (chain_table chain_schema) (c.number_of_optional_and_default_fields-optional.ensures ∙ count_presence_bits _ _ c.fields.ensures) refl c.in_ok-begin_sequence.ensures.level c.in_ok-begin_sequence.ensures.ok c.in_err-chain.ensures.only))
+returns-in_err-chain-clause-only g c = let one = g.met.D.Decoder.one_record in let carries = g.met.D.Decoder.records_carried in
+    raised _ _ _ c.from_residual-in_err-chain.ensures.1
+    (unread_as _ _ chain_is (unread_sequence one carries (chain_table chain_schema) (c.number_of_optional_and_default_fields-optional.ensures ∙
+    count_presence_bits _ _ c.fields.ensures) refl c.in_ok-begin_sequence.ensures.call.level c.in_ok-begin_sequence.ensures.ok c.in_err-chain.ensures.only))
 
 pub returns-clause-ok : goal.returns-clause-ok
-returns-clause-ok g c = rw chain_opens (reads_as _ _ chain_is (reads_sequence (chain_table chain_schema) (c.number_of_optional_and_default_fields-optional.ensures ∙ count_presence_bits _ _ c.fields.ensures) refl c.in_ok-begin_sequence.ensures.level c.in_ok-begin_sequence.ensures.ok c.in_ok-chain.ensures.ok))
+returns-clause-ok g c = rw chain_opens
+    (reads_as _ _ chain_is (reads_sequence (chain_table chain_schema) (c.number_of_optional_and_default_fields-optional.ensures ∙
+    count_presence_bits _ _ c.fields.ensures) refl c.in_ok-begin_sequence.ensures.call.level c.in_ok-begin_sequence.ensures.ok c.in_ok-chain.ensures.ok))

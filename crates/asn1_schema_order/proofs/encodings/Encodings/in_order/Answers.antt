@@ -2,7 +2,7 @@ use Rattle.std.proofs.Common.{rules, refl, arith}
 use Rattle.std.proofs.lemmas.List.Sorted.{answers_always}
 use Rattle.asn1_schema_order.specs.declared.encodings.Entry.{Entry}
 use Rattle.asn1_schema_order.specs.Entries.{octets_of}
-use Rattle.asn1_schema_order.specs.Fronts.{fronted}
+use Rattle.asn1_schema_order.specs.LeadingOctets.{fronted}
 use Rattle.asn1_schema_order.proofs.Ascending.{less, ranks, is_ascending_by}
 use Rattle.asn1_schema_order.proofs.Leading.{AreOctets}
 use Rattle.asn1_schema_order.proofs.Placed.{placed_next, placed_all, fronts_next, HasFront, fronts_agree}

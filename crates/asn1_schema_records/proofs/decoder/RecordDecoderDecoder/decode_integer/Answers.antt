@@ -10,7 +10,9 @@ pub returns-in-Ok-clause-ok : goal.returns-in-Ok-clause-ok
 returns-in-Ok-clause-ok g c =
     let k : record_of c.in_ok-item.item ≡ whole (bounds_in c.in-Some.limits) any_number c.in-Some.number = search rules in
     let same = c.are_among.ensures.0 c.if-not-are_among.false in
-    takes_whole c.in_ok-item.ensures.ok k same c.in-Ok.ensures.value (admitted_held c.args.constraints.now.value g.I.IntegerType.held c.in-Some.number c.in-Ok.ensures.admitted c.in-Ok.ensures.held) (admitted_within c.args.constraints.now.value c.in-Some.number c.in-Ok.ensures.admitted)
+    takes_whole c.in_ok-item.ensures.ok k same c.in-Ok.ensures.value
+    (admitted_held c.args.constraints.now.value g.I.IntegerType.held c.in-Some.number c.in-Ok.ensures.admitted c.in-Ok.ensures.held)
+    (admitted_within c.args.constraints.now.value c.in-Some.number c.in-Ok.ensures.admitted)
 
 pub returns-clause-only : goal.returns-clause-only
 returns-clause-only g c =

@@ -21,10 +21,15 @@ pub returns-clause-bits : goal.returns-clause-bits
 unfolding appended room_of
 returns-clause-bits c =
     let room : c.args.width ≤ room_of c.args.self.now = c.requires.room in
-    written_up_to c.args.self.now.buffer.now c.put_bits.new.self (binary c.args.width c.args.value) c.args.self.now.next c.args.width (omega arith) (length-binary c.args.width c.args.value) c.put_bits.ensures
+    written_up_to c.args.self.now.buffer.now c.put_bits.new.self (binary c.args.width c.args.value) c.args.self.now.next c.args.width (omega arith)
+    (length-binary c.args.width c.args.value) c.put_bits.ensures
 
 pub returns-clause-room : goal.returns-clause-room
 unfolding room_of
 returns-clause-room c =
     let room : c.args.width ≤ room_of c.args.self.now = c.requires.room in
-    omega (arith, written_length c.args.self.now.buffer.now c.put_bits.new.self (binary c.args.width c.args.value) c.args.self.now.next c.args.width (omega arith) (length-binary c.args.width c.args.value) c.put_bits.ensures)
+    omega (
+      arith,
+      written_length c.args.self.now.buffer.now c.put_bits.new.self (binary c.args.width c.args.value) c.args.self.now.next c.args.width
+          (omega arith) (length-binary c.args.width c.args.value) c.put_bits.ensures,
+    )

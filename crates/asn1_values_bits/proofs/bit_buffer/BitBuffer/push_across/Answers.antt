@@ -47,7 +47,8 @@ now c =
     ]
 
 longer : (c : goal.After-self-2-1) → length (c.args.self.now ++ binary c.args.width c.args.value) ≡ c.in-Some.len
-longer c = length-append c.args.self.now (binary c.args.width c.args.value) ∙ (omega (arith, c.in-Some.ensures, length-binary c.args.width c.args.value, kept_length c.self.inside.len c.self.inside.octets.items c.args.self.now c.self.invariant c.self.view_is))
+longer c = length-append c.args.self.now (binary c.args.width c.args.value) ∙
+    (omega (arith, c.in-Some.ensures, length-binary c.args.width c.args.value, kept_length c.self.inside.len c.self.inside.octets.items c.args.self.now c.self.invariant c.self.view_is))
 
 pub invariant_of-self-2 : goal.invariant_of-self-2
 invariant_of-self-2 c = keeps c.in-Some.len c.if-free-gt0.self-inside.octets.items (c.args.self.now ++ binary c.args.width c.args.value) (longer c) (now c)

@@ -32,9 +32,11 @@ now c =
                 let within : k < length os = omega (arith, c.free_bits-free.ensures) in
                 let last : length os ≡ k + 1 = omega arith in
                 let read : x ≡ get_or os k x = u.index_mut.ensures.value ∙ ap (λ l. get_or l k x) pushed ∙ get_or_append_left os ((wide % 256) ∷ []) x k within in
-                let done : c.if-free-gt0.self-inside.octets.items ≡ set os k (bit_or x (wide / 256)) ++ (wide % 256) ∷ [] = ap (λ i. i.octets.items) u.self-inside-is ∙ ap (λ l. set l k (bit_or x (wide / 256))) pushed ∙ set-append_left os ((wide % 256) ∷ []) k (bit_or x (wide / 256)) within in
+                let done : c.if-free-gt0.self-inside.octets.items ≡ set os k (bit_or x (wide / 256)) ++ (wide % 256) ∷ [] =
+                ap (λ i. i.octets.items) u.self-inside-is ∙ ap (λ l. set l k (bit_or x (wide / 256))) pushed ∙ set-append_left os ((wide % 256) ∷ []) k (bit_or x (wide / 256)) within in
                 ap octet_bits done
-                ∙ with_low (set os k (bit_or x (wide / 256))) v free c.args.count c.args.bits wide r (or_last_set os v k free x (wide / 256) last read (omega arith) high (before c)) shifted (omega arith)
+                ∙ with_low (set os k (bit_or x (wide / 256))) v free c.args.count c.args.bits wide r
+                (or_last_set os v k free x (wide / 256) last read (omega arith) high (before c)) shifted (omega arith)
                 ∙ ap (λ n. (v ++ binary c.args.count c.args.bits) ++ replicate n false) (sym end)
             | else-free-gt0 u ↦
                 let none : free ≡ 0 = omega arith in
@@ -53,7 +55,8 @@ now c =
                 let read : x ≡ get_or os k x = u.index_mut.ensures.value ∙ ap (λ l. get_or l k x) same in
                 let done : c.if-free-gt0.self-inside.octets.items ≡ set os k (bit_or x (wide / 256)) = ap (λ i. i.octets.items) u.self-inside-is ∙ ap (λ l. set l k (bit_or x (wide / 256))) same in
                 ap octet_bits done
-                ∙ with_all (set os k (bit_or x (wide / 256))) v free c.args.count c.args.bits wide (free - c.args.count) (or_last_set os v k free x (wide / 256) last read (omega arith) high (before c)) by (omega arith)
+                ∙ with_all (set os k (bit_or x (wide / 256))) v free c.args.count c.args.bits wide (free - c.args.count)
+                (or_last_set os v k free x (wide / 256) last read (omega arith) high (before c)) by (omega arith)
                 ∙ ap (λ n. (v ++ binary c.args.count c.args.bits) ++ replicate n false) (sym end)
             | else-free-gt0 u ↦
                 let none : free ≡ 0 = omega arith in
@@ -64,7 +67,8 @@ now c =
     ]
 
 longer : (c : goal.After-self-2-1) → length (c.args.self.now ++ binary c.args.count c.args.bits) ≡ c.in-Some.len
-longer c = length-append c.args.self.now (binary c.args.count c.args.bits) ∙ (omega (arith, c.in-Some.ensures, length-binary c.args.count c.args.bits, kept_length c.self.inside.len c.self.inside.octets.items c.args.self.now c.self.invariant c.self.view_is))
+longer c = length-append c.args.self.now (binary c.args.count c.args.bits) ∙
+    (omega (arith, c.in-Some.ensures, length-binary c.args.count c.args.bits, kept_length c.self.inside.len c.self.inside.octets.items c.args.self.now c.self.invariant c.self.view_is))
 
 pub invariant_of-self-2 : goal.invariant_of-self-2
 invariant_of-self-2 c = keeps c.in-Some.len c.if-free-gt0.self-inside.octets.items (c.args.self.now ++ binary c.args.count c.args.bits) (longer c) (now c)

@@ -16,7 +16,15 @@ more c =
     ∙ sym (ap (λ k. (c.args.self.now ++ octet_bits c.args.octets.now) ++ replicate k false) end ∙ append-nil (c.args.self.now ++ octet_bits c.args.octets.now))
 
 long : (c : goal.After-self-1) → length (c.args.self.now ++ octet_bits c.args.octets.now) ≡ c.in-Some-checked_add.len
-long c = length-append c.args.self.now (octet_bits c.args.octets.now) ∙ (omega (arith, c.in-Some.ensures, c.in-Some-checked_add.ensures, length-octet_bits c.args.octets.now, kept_length c.self.inside.len c.self.inside.octets.items c.args.self.now c.self.invariant c.self.view_is))
+long c = length-append c.args.self.now (octet_bits c.args.octets.now) ∙
+    (omega (
+      arith,
+      c.in-Some.ensures,
+      c.in-Some-checked_add.ensures,
+      length-octet_bits c.args.octets.now,
+      kept_length c.self.inside.len
+          c.self.inside.octets.items c.args.self.now c.self.invariant c.self.view_is,
+    ))
 
 pub invariant_of-self-2 : goal.invariant_of-self-2
 invariant_of-self-2 c = keeps c.in-Some-checked_add.len c.extend_from_slice.new.self.items (c.args.self.now ++ octet_bits c.args.octets.now) (long c) (more c)

@@ -16,7 +16,11 @@ returns-then-width-le64 c =
 pub put_word-requires-3-clause-within : goal.put_word-requires-3-clause-within
 put_word-requires-3-clause-within c =
     let high : ℕ = c.args.width - 64 in
-    omega (arith, written_length c.args.self.now c.put_word-2.new.self (binary high (c.args.value / 2 ^ 64)) c.args.at high (omega arith) (length-binary high (c.args.value / 2 ^ 64)) c.put_word-2.ensures)
+    omega (
+      arith,
+      written_length c.args.self.now c.put_word-2.new.self (binary high (c.args.value / 2 ^ 64)) c.args.at high (omega arith)
+          (length-binary high (c.args.value / 2 ^ 64)) c.put_word-2.ensures,
+    )
 
 pub returns : goal.returns
 returns c =

@@ -11,9 +11,16 @@ overflow_cast-high-2 c =
     let past : ℕ = 8 - c.args.place % 8 - c.args.count in
     let eight : c.args.place % 8 + (c.args.count + past) ≡ 8 = omega arith in
     let small : c.index.result.now < 256 = omega arith in
-    record { fits = rw (mixed_is c.index.result.now c.args.bits (c.args.place % 8) c.args.count past eight small c.requires.fits) (mixed_small c.index.result.now c.args.bits (c.args.place % 8) c.args.count past eight small c.requires.fits) }
+    record {
+      fits = rw (mixed_is c.index.result.now c.args.bits (c.args.place % 8) c.args.count past eight small c.requires.fits)
+          (mixed_small c.index.result.now c.args.bits (c.args.place % 8) c.args.count past eight small c.requires.fits);
+    }
 
-shown : (c : goal.After-self-1) → octet_bits (set c.self.inside.octets.items (c.args.place / 8) (bit_or (bit_or (c.index.result.now / 2 ^ (c.args.count + (8 - c.args.place % 8 - c.args.count)) * 2 ^ c.args.count % 2 ^ 16) c.args.bits * 2 ^ (8 - c.args.place % 8 - c.args.count) % 2 ^ 16) (bit_and c.index.result.now (1 * 2 ^ (8 - c.args.place % 8 - c.args.count) % 2 ^ 16 - 1)))) ≡ (take c.args.place c.args.self.now ++ (binary c.args.count c.args.bits ++ drop (c.args.place + c.args.count) c.args.self.now)) ++ replicate (missing c.self.inside.len) false
+shown : (c : goal.After-self-1) →
+    octet_bits (set c.self.inside.octets.items (c.args.place / 8)
+    (bit_or (bit_or (c.index.result.now / 2 ^ (c.args.count + (8 - c.args.place % 8 - c.args.count)) * 2 ^ c.args.count % 2 ^ 16) c.args.bits *
+    2 ^ (8 - c.args.place % 8 - c.args.count) % 2 ^ 16) (bit_and c.index.result.now (1 * 2 ^ (8 - c.args.place % 8 - c.args.count) % 2 ^ 16 - 1))))
+    ≡ (take c.args.place c.args.self.now ++ (binary c.args.count c.args.bits ++ drop (c.args.place + c.args.count) c.args.self.now)) ++ replicate (missing c.self.inside.len) false
 shown c =
     let past : ℕ = 8 - c.args.place % 8 - c.args.count in
     let eight : c.args.place % 8 + (c.args.count + past) ≡ 8 = omega arith in
@@ -23,7 +30,8 @@ shown c =
     kept_put c.self.inside.octets.items _ c.args.self.now (binary c.args.count c.args.bits) c.self.inside.len c.args.place c.args.count
     (kept_bits c.self.inside.len c.self.inside.octets.items c.args.self.now c.self.invariant c.self.view_is) n (omega arith)
     (octet_put c.self.inside.octets.items c.args.place (c.args.place / 8) (c.args.place % 8) c.args.count past c.index.result.now _ c.args.bits (omega arith) eight (omega arith) c.index.ensures
-    (ap (binary 8) (mixed_is c.index.result.now c.args.bits (c.args.place % 8) c.args.count past eight small c.requires.fits) ∙ mixed c.index.result.now c.args.bits (c.args.place % 8) c.args.count past eight c.requires.fits))
+    (ap (binary 8) (mixed_is c.index.result.now c.args.bits (c.args.place % 8) c.args.count past eight small c.requires.fits) ∙
+    mixed c.index.result.now c.args.bits (c.args.place % 8) c.args.count past eight c.requires.fits))
 
 long : (c : goal.After-self-1) → length (take c.args.place c.args.self.now ++ (binary c.args.count c.args.bits ++ drop (c.args.place + c.args.count) c.args.self.now)) ≡ c.self.inside.len
 long c =

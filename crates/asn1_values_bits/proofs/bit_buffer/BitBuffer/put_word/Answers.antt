@@ -25,6 +25,15 @@ loop-left-preserved c =
       place_is = omega (arith, c.min-few.ensures);
       part = omega arith;
       size = ap length new_is ∙ length-append (take c.loop-left.place c.loop-left.self) (binary few piece ++ drop (c.loop-left.place + few) c.loop-left.self)
-          ∙ (omega (arith, c.min-few.ensures, length-append (binary few piece) (drop (c.loop-left.place + few) c.loop-left.self), length-binary few piece, length-drop (c.loop-left.place + few) c.loop-left.self, length-take-le c.loop-left.place c.loop-left.self (omega arith)));
-      written = put_on c.loop-left.self c.args.self.now c.put_few.new.self _ c.loop-left.place few left c.args.value (c.args.at + c.args.width) (omega (arith, c.min-few.ensures)) c.loop-left.invariant.place_is (omega arith) new_is c.loop-left.invariant.written;
+          ∙ (omega (
+            arith,
+            c.min-few.ensures,
+            length-append (binary few piece) (drop (c.loop-left.place + few) c.loop-left.self),
+            length-binary few
+                piece,
+            length-drop (c.loop-left.place + few) c.loop-left.self,
+            length-take-le c.loop-left.place c.loop-left.self (omega arith),
+          ));
+      written = put_on c.loop-left.self c.args.self.now c.put_few.new.self _ c.loop-left.place few left c.args.value (c.args.at + c.args.width)
+          (omega (arith, c.min-few.ensures)) c.loop-left.invariant.place_is (omega arith) new_is c.loop-left.invariant.written;
     }

@@ -8,7 +8,8 @@ use Rattle.asn1_values_bits.proofs.bit_buffer.BitBuffer.truncate.Goals as goal
 cut : (c : goal.After-self-1) → octet_bits c.truncate.new.self.items ≡ take c.args.len c.args.self.now ++ replicate (missing c.args.len) false
 cut c =
     let size = c.self.invariant.size in
-    cut_whole c.self.inside.len c.args.len (c.args.len / 8) c.self.inside.octets.items c.truncate.new.self.items c.args.self.now c.self.view_is (omega arith) (omega arith) (omega arith) c.truncate.ensures.items
+    cut_whole c.self.inside.len c.args.len (c.args.len / 8) c.self.inside.octets.items c.truncate.new.self.items c.args.self.now c.self.view_is
+    (omega arith) (omega arith) (omega arith) c.truncate.ensures.items
 
 long : (c : goal.After-self-1) → length (take c.args.len c.args.self.now) ≡ c.args.len
 long c = length-take-le c.args.len c.args.self.now (omega (arith, kept_length c.self.inside.len c.self.inside.octets.items c.args.self.now c.self.invariant c.self.view_is))
@@ -19,7 +20,9 @@ invariant_of-self c = keeps c.args.len c.truncate.new.self.items (take c.args.le
 pub returns-then-len-eq0 : goal.returns-then-len-eq0
 returns-then-len-eq0 c = kept_view c.args.len c.truncate.new.self.items (take c.args.len c.args.self.now) (long c) (cut c)
 
-shown : (c : goal.After-self-3-1) → octet_bits (set c.truncate-2.new.self.items (c.args.len / 8) (c.index.result.now / 2 ^ c.free_bits-free.result * 2 ^ c.free_bits-free.result % 256)) ≡ take c.args.len c.args.self.now ++ replicate (missing c.args.len) false
+shown : (c : goal.After-self-3-1) →
+    octet_bits (set c.truncate-2.new.self.items (c.args.len / 8)
+    (c.index.result.now / 2 ^ c.free_bits-free.result * 2 ^ c.free_bits-free.result % 256)) ≡ take c.args.len c.args.self.now ++ replicate (missing c.args.len) false
 shown c =
     let size = c.self.invariant.size in
     let free : ℕ = c.free_bits-free.result in

@@ -19,7 +19,8 @@ pub returns-clause-octets : goal.returns-clause-octets
 returns-clause-octets c =
     let few : ℕ = c.min-few.result in
     let b = bits_of c.args.self.now in
-    let whole : c.first_bits.result * 2 ^ (8 - few) % 2 ^ 64 ≡ c.first_bits.result * 2 ^ (8 - few) = shl_whole c.first_bits.result few (8 - few) 64 c.first_bits.ensures.fits (omega (arith, c.min-few.ensures)) in
+    let whole : c.first_bits.result * 2 ^ (8 - few) % 2 ^ 64 ≡ c.first_bits.result * 2 ^ (8 - few) =
+    shl_whole c.first_bits.result few (8 - few) 64 c.first_bits.ensures.fits (omega (arith, c.min-few.ensures)) in
     let few_is : few ≡ min (length b) 8 = c.min-few.ensures ∙ ap (λ k. min k 8) c.len.ensures in
     octet_leads b few c.first_bits.result c.requires few_is c.first_bits.ensures.digits c.first_bits.ensures.fits
     ∙ ap (λ x. x ∷ packed (padded (drop few b))) (sym whole)

@@ -15,5 +15,6 @@ returns-clause-value c =
 
 pub returns-clause-fits : goal.returns-clause-fits
 returns-clause-fits c =
-    let e = c.magnitude.ensures.value ∙ plain-read c.args.octets.now c.without_leading-digits.result.now c.has_sign-negative.result c.type_inv.octets c.has_sign-negative.ensures c.without_leading-digits.ensures.same in
+    let e = c.magnitude.ensures.value ∙ plain-read c.args.octets.now c.without_leading-digits.result.now c.has_sign-negative.result c.type_inv.octets
+    c.has_sign-negative.ensures c.without_leading-digits.ensures.same in
     under (plain (signed_number c.args.octets.now)) (omega (arith, e))

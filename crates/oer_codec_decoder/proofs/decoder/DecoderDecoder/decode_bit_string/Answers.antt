@@ -15,4 +15,7 @@ pub returns-in-Err-clause-only : goal.returns-in-Err-clause-only
 returns-in-Err-clause-only c =
     let z = sizes_of c.args.constraints.now.size in
     let h = counts_of c.args.held in
-    still_short _ _ (bit_string z h) c.size_of_bits.result _ c.self.view_is c.remaining-octets.ensures c.lack_octets.ensures.scopes c.lack_octets.ensures.short (λ r. no_bit_string r z h c.fixed.result c.size_of_bits.result (c.fixed.ensures ∙ ap one_size c.sizes.ensures) c.size_of_bits.ensures) (λ free a b. asked_bits free a b z h) (none_found _ _ _ (bit_string z h) _ _ c.self.view_is c.lack_octets.ensures.refused c.in-Err.ensures.only (λ free a b. asked_bits free a b z h))
+    still_short _ _ (bit_string z h) c.size_of_bits.result _ c.self.view_is c.remaining-octets.ensures c.lack_octets.ensures.scopes
+    c.lack_octets.ensures.short (λ r. no_bit_string r z h c.fixed.result c.size_of_bits.result (c.fixed.ensures ∙ ap one_size c.sizes.ensures)
+    c.size_of_bits.ensures) (λ free a b. asked_bits free a b z h)
+    (none_found _ _ _ (bit_string z h) _ _ c.self.view_is c.lack_octets.ensures.refused c.in-Err.ensures.only (λ free a b. asked_bits free a b z h))

@@ -7,7 +7,8 @@ use Rattle.oer_codec_decoder.proofs.Lacking.{still_short}
 use Rattle.oer_codec_decoder.proofs.ShortStrings.{no_whole}
 
 pub returns-in-Ok-clause-within : goal.returns-in-Ok-clause-within
-returns-in-Ok-clause-within g c = number_within (freedoms c.self.inside.rules) (bounds_of c.args.constraints.now.value) (held_of c.args.constraints.now.value g.I.IntegerType.held) _ _ _ c.in-Ok.ensures.ok
+returns-in-Ok-clause-within g c = number_within (freedoms c.self.inside.rules) (bounds_of c.args.constraints.now.value)
+    (held_of c.args.constraints.now.value g.I.IntegerType.held) _ _ _ c.in-Ok.ensures.ok
 
 pub returns-in-Err-clause-only : goal.returns-in-Err-clause-only
 returns-in-Err-clause-only g c =
@@ -15,4 +16,6 @@ returns-in-Err-clause-only g c =
     let i = g.I.IntegerType.held in
     let b = bounds_of v in
     let h = held_of v i in
-    still_short _ _ (integer b h) c.size_of_number.result _ c.self.view_is c.remaining-octets.ensures c.lack_octets.ensures.scopes c.lack_octets.ensures.short (λ r. no_whole r v i c.size_of_number.result c.size_of_number.ensures) (λ free x y. asked_whole free x y b h) (none_found _ _ _ (integer b h) _ _ c.self.view_is c.lack_octets.ensures.refused c.in-Err.ensures.only (λ free x y. asked_whole free x y b h))
+    still_short _ _ (integer b h) c.size_of_number.result _ c.self.view_is c.remaining-octets.ensures c.lack_octets.ensures.scopes
+    c.lack_octets.ensures.short (λ r. no_whole r v i c.size_of_number.result c.size_of_number.ensures) (λ free x y. asked_whole free x y b h)
+    (none_found _ _ _ (integer b h) _ _ c.self.view_is c.lack_octets.ensures.refused c.in-Err.ensures.only (λ free x y. asked_whole free x y b h))

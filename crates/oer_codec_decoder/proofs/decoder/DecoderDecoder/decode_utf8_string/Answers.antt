@@ -12,4 +12,7 @@ pub returns-in-Err-clause-only : goal.returns-in-Err-clause-only
 returns-in-Err-clause-only c =
     let z = sizes_of c.args.constraints.now.size in
     let a = alphabet_of c.args.constraints.now.permitted_alphabet in
-    still_short _ _ (character_string utf8 z a any_count) c.fixed.result _ c.self.view_is c.remaining-octets.ensures c.lack_octets.ensures.scopes c.lack_octets.ensures.short (λ r. no_text (freedoms r) z a any_count c.fixed.result (c.fixed.ensures ∙ ap one_size c.sizes.ensures)) (λ free x y. asked_characters free x y utf8 z a any_count) (none_found _ _ _ (character_string utf8 z a any_count) _ _ c.self.view_is c.lack_octets.ensures.refused c.in-Err.ensures.only (λ free x y. asked_characters free x y utf8 z a any_count))
+    still_short _ _ (character_string utf8 z a any_count) c.fixed.result _ c.self.view_is c.remaining-octets.ensures c.lack_octets.ensures.scopes
+    c.lack_octets.ensures.short (λ r. no_text (freedoms r) z a any_count c.fixed.result (c.fixed.ensures ∙ ap one_size c.sizes.ensures))
+    (λ free x y. asked_characters free x y utf8 z a any_count) (none_found _ _ _ (character_string utf8 z a any_count) _ _ c.self.view_is
+    c.lack_octets.ensures.refused c.in-Err.ensures.only (λ free x y. asked_characters free x y utf8 z a any_count))

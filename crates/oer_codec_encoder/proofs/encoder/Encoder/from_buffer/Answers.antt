@@ -1,5 +1,5 @@
 use Rattle.std.proofs.Common.{false, ap, subst, sym, ◌∙◌, arith}
-use Rattle.oer_codec_encoder.specs.Fronts.{Stands}
+use Rattle.oer_codec_encoder.specs.EarlierOctets.{Stands}
 use Rattle.oer_codec_encoder.proofs.Stepped.{holding, holding_at_first, stands_at_first}
 use Rattle.oer_codec_encoder.proofs.encoder.Encoder.from_buffer.Goals as goal
 

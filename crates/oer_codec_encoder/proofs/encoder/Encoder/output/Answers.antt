@@ -1,5 +1,5 @@
 use Rattle.std.proofs.Common.{ap, subst, sym, ◌∙◌, arith}
-use Rattle.oer_codec_encoder.specs.Fronts.{Stands}
+use Rattle.oer_codec_encoder.specs.EarlierOctets.{Stands}
 use Rattle.oer_codec_encoder.specs.Holding.{shown}
 use Rattle.oer_codec_encoder.specs.Stepping.{Written}
 use Rattle.oer_codec_encoder.proofs.Scopes.{nothing_open}

@@ -6,10 +6,12 @@ pub encode_addition-requires : goal.encode_addition-requires
 encode_addition-requires c = is_sound c.self.inside.frames c.self.inside.output.now.items (c.self.invariant c.in_ok-begin_record.ensures.ok)
 
 pub invariant_of-self-2 : goal.invariant_of-self-2
-invariant_of-self-2 c _ = stays_sound _ c.self.inside.frames c.encode_addition.new.frames c.self.inside.output.now.items c.encode_addition.new.octets.items (c.self.invariant c.in_ok-begin_record.ensures.ok) c.in_ok-encode_addition.ensures.step
+invariant_of-self-2 c _ = stays_sound _ c.self.inside.frames c.encode_addition.new.frames c.self.inside.output.now.items
+    c.encode_addition.new.octets.items (c.self.invariant c.in_ok-begin_record.ensures.ok) c.in_ok-encode_addition.ensures.step
 
 pub returns-clause-ok : goal.returns-clause-ok
-returns-clause-ok c = puts _ c.self.inside.frames c.encode_addition.new.frames c.self.inside.output.now.items c.encode_addition.new.octets.items c.self.inside.failed c.args.self.now c.self.view_is c.in_ok-begin_record.ensures.ok (c.self.invariant c.in_ok-begin_record.ensures.ok) c.in_ok-encode_addition.ensures.step
+returns-clause-ok c = puts _ c.self.inside.frames c.encode_addition.new.frames c.self.inside.output.now.items c.encode_addition.new.octets.items
+    c.self.inside.failed c.args.self.now c.self.view_is c.in_ok-begin_record.ensures.ok (c.self.invariant c.in_ok-begin_record.ensures.ok) c.in_ok-encode_addition.ensures.step
 
 pub returns-clause-call : goal.returns-clause-call
 returns-clause-call c =
@@ -17,4 +19,11 @@ returns-clause-call c =
 
 pub returns-in_err-encode_addition-clause-call : goal.returns-in_err-encode_addition-clause-call
 returns-in_err-encode_addition-clause-call c =
-    record { failed = search rules; front = kept_front c.self.inside.frames c.encode_addition.new.frames c.self.inside.output.now.items c.encode_addition.new.octets.items c.self.inside.failed c.args.self.now c.self.view_is (c.self.invariant c.in_ok-begin_record.ensures.ok) c.in_err-encode_addition.ensures.kept; already = search rules; after = search rules }
+    record {
+      failed = search rules;
+      front = kept_front c.self.inside.frames c.encode_addition.new.frames c.self.inside.output.now.items
+          c.encode_addition.new.octets.items c.self.inside.failed c.args.self.now c.self.view_is (c.self.invariant c.in_ok-begin_record.ensures.ok)
+          c.in_err-encode_addition.ensures.kept;
+      already = search rules;
+      after = search rules;
+    }

@@ -5,10 +5,12 @@ use Rattle.oer_codec_encoder.proofs.Stepped.{adds_sound, adds_puts, text_kept}
 use Rattle.oer_codec_encoder.proofs.encoder.EncoderEncoder.encode_bool.Goals as goal
 
 pub invariant_of-self-2 : goal.invariant_of-self-2
-invariant_of-self-2 c _ = adds_sound (flag c.args.value) _ c.self.inside.frames c.self.inside.output.now.items c.push_boolean.new.octets.items (λ s. refl) (c.self.invariant c.in_ok-begin_record.ensures.ok) c.in_ok-push_boolean.ensures.text
+invariant_of-self-2 c _ = adds_sound (flag c.args.value) _ c.self.inside.frames c.self.inside.output.now.items c.push_boolean.new.octets.items
+    (λ s. refl) (c.self.invariant c.in_ok-begin_record.ensures.ok) c.in_ok-push_boolean.ensures.text
 
 pub returns-clause-ok : goal.returns-clause-ok
-returns-clause-ok c = adds_puts (flag c.args.value) _ c.self.inside.frames c.self.inside.output.now.items c.push_boolean.new.octets.items c.self.inside.failed c.args.self.now (λ s. refl) c.self.view_is c.in_ok-begin_record.ensures.ok (c.self.invariant c.in_ok-begin_record.ensures.ok) c.in_ok-push_boolean.ensures.text
+returns-clause-ok c = adds_puts (flag c.args.value) _ c.self.inside.frames c.self.inside.output.now.items c.push_boolean.new.octets.items
+    c.self.inside.failed c.args.self.now (λ s. refl) c.self.view_is c.in_ok-begin_record.ensures.ok (c.self.invariant c.in_ok-begin_record.ensures.ok) c.in_ok-push_boolean.ensures.text
 
 pub returns-clause-call : goal.returns-clause-call
 returns-clause-call c =
@@ -16,4 +18,10 @@ returns-clause-call c =
 
 pub returns-in_err-push_boolean-clause-call : goal.returns-in_err-push_boolean-clause-call
 returns-in_err-push_boolean-clause-call c =
-    record { failed = search rules; front = text_kept c.self.inside.frames c.self.inside.output.now.items c.push_boolean.new.octets.items c.self.inside.failed c.args.self.now c.self.view_is (c.self.invariant c.in_ok-begin_record.ensures.ok) c.in_err-push_boolean.ensures.kept; already = search rules; after = search rules }
+    record {
+      failed = search rules;
+      front = text_kept c.self.inside.frames c.self.inside.output.now.items c.push_boolean.new.octets.items
+          c.self.inside.failed c.args.self.now c.self.view_is (c.self.invariant c.in_ok-begin_record.ensures.ok) c.in_err-push_boolean.ensures.kept;
+      already = search rules;
+      after = search rules;
+    }

@@ -6,10 +6,15 @@ use Rattle.oer_codec_encoder.proofs.Stepped.{adds_sound, adds_puts, text_kept}
 use Rattle.oer_codec_encoder.proofs.encoder.EncoderEncoder.encode_integer.Goals as goal
 
 pub invariant_of-self-2 : goal.invariant_of-self-2
-invariant_of-self-2 g c _ = adds_sound (whole (bounds_of c.args.constraints.now.value) (held_of c.args.constraints.now.value g.I.IntegerType.held) (g.I.IntegerType.value c.args.value.now)) _ c.self.inside.frames c.self.inside.output.now.items c.push_integer.new.octets.items (λ s. refl) (c.self.invariant c.in_ok-begin_record.ensures.ok) c.in_ok-push_integer.ensures.text
+invariant_of-self-2 g c _ =
+    adds_sound (whole (bounds_of c.args.constraints.now.value) (held_of c.args.constraints.now.value g.I.IntegerType.held)
+    (g.I.IntegerType.value c.args.value.now)) _ c.self.inside.frames c.self.inside.output.now.items c.push_integer.new.octets.items (λ s. refl)
+    (c.self.invariant c.in_ok-begin_record.ensures.ok) c.in_ok-push_integer.ensures.text
 
 pub returns-clause-ok : goal.returns-clause-ok
-returns-clause-ok g c = adds_puts (whole (bounds_of c.args.constraints.now.value) (held_of c.args.constraints.now.value g.I.IntegerType.held) (g.I.IntegerType.value c.args.value.now)) _ c.self.inside.frames c.self.inside.output.now.items c.push_integer.new.octets.items c.self.inside.failed c.args.self.now (λ s. refl) c.self.view_is c.in_ok-begin_record.ensures.ok (c.self.invariant c.in_ok-begin_record.ensures.ok) c.in_ok-push_integer.ensures.text
+returns-clause-ok g c = adds_puts (whole (bounds_of c.args.constraints.now.value) (held_of c.args.constraints.now.value g.I.IntegerType.held)
+    (g.I.IntegerType.value c.args.value.now)) _ c.self.inside.frames c.self.inside.output.now.items c.push_integer.new.octets.items
+    c.self.inside.failed c.args.self.now (λ s. refl) c.self.view_is c.in_ok-begin_record.ensures.ok (c.self.invariant c.in_ok-begin_record.ensures.ok) c.in_ok-push_integer.ensures.text
 
 pub returns-clause-call : goal.returns-clause-call
 returns-clause-call g c =
@@ -17,4 +22,10 @@ returns-clause-call g c =
 
 pub returns-in_err-push_integer-clause-call : goal.returns-in_err-push_integer-clause-call
 returns-in_err-push_integer-clause-call g c =
-    record { failed = search rules; front = text_kept c.self.inside.frames c.self.inside.output.now.items c.push_integer.new.octets.items c.self.inside.failed c.args.self.now c.self.view_is (c.self.invariant c.in_ok-begin_record.ensures.ok) c.in_err-push_integer.ensures.kept; already = search rules; after = search rules }
+    record {
+      failed = search rules;
+      front = text_kept c.self.inside.frames c.self.inside.output.now.items c.push_integer.new.octets.items
+          c.self.inside.failed c.args.self.now c.self.view_is (c.self.invariant c.in_ok-begin_record.ensures.ok) c.in_err-push_integer.ensures.kept;
+      already = search rules;
+      after = search rules;
+    }

@@ -6,10 +6,12 @@ pub end_innermost-requires : goal.end_innermost-requires
 end_innermost-requires c = is_sound c.self.inside.frames c.self.inside.output.now.items (c.self.invariant c.in_ok-begin_record.ensures.ok)
 
 pub invariant_of-self-2 : goal.invariant_of-self-2
-invariant_of-self-2 c _ = stays_sound _ c.self.inside.frames c.end_innermost.new.self c.self.inside.output.now.items c.end_innermost.new.octets.items (c.self.invariant c.in_ok-begin_record.ensures.ok) c.in_ok-end_innermost.ensures.step
+invariant_of-self-2 c _ = stays_sound _ c.self.inside.frames c.end_innermost.new.self c.self.inside.output.now.items c.end_innermost.new.octets.items
+    (c.self.invariant c.in_ok-begin_record.ensures.ok) c.in_ok-end_innermost.ensures.step
 
 pub returns-clause-ok : goal.returns-clause-ok
-returns-clause-ok c = puts _ c.self.inside.frames c.end_innermost.new.self c.self.inside.output.now.items c.end_innermost.new.octets.items c.self.inside.failed c.args.self.now c.self.view_is c.in_ok-begin_record.ensures.ok (c.self.invariant c.in_ok-begin_record.ensures.ok) c.in_ok-end_innermost.ensures.step
+returns-clause-ok c = puts _ c.self.inside.frames c.end_innermost.new.self c.self.inside.output.now.items c.end_innermost.new.octets.items
+    c.self.inside.failed c.args.self.now c.self.view_is c.in_ok-begin_record.ensures.ok (c.self.invariant c.in_ok-begin_record.ensures.ok) c.in_ok-end_innermost.ensures.step
 
 pub returns-clause-call : goal.returns-clause-call
 returns-clause-call c =
@@ -17,4 +19,11 @@ returns-clause-call c =
 
 pub returns-in_err-end_innermost-clause-call : goal.returns-in_err-end_innermost-clause-call
 returns-in_err-end_innermost-clause-call c =
-    record { failed = search rules; front = kept_front c.self.inside.frames c.end_innermost.new.self c.self.inside.output.now.items c.end_innermost.new.octets.items c.self.inside.failed c.args.self.now c.self.view_is (c.self.invariant c.in_ok-begin_record.ensures.ok) c.in_err-end_innermost.ensures.kept; already = search rules; after = search rules }
+    record {
+      failed = search rules;
+      front = kept_front c.self.inside.frames c.end_innermost.new.self c.self.inside.output.now.items
+          c.end_innermost.new.octets.items c.self.inside.failed c.args.self.now c.self.view_is (c.self.invariant c.in_ok-begin_record.ensures.ok)
+          c.in_err-end_innermost.ensures.kept;
+      already = search rules;
+      after = search rules;
+    }

@@ -1,17 +1,16 @@
-use Rattle.std.proofs.Common.{◌≡◌, Some, reverse, ap, sym, refl, ◌∙◌}
-use Rattle.std.specs.Box.{with_value}
-use Rattle.oer_codec_encoder.specs.declared.frame.Bag.{Bag as BagFrame}
-use Rattle.oer_codec_encoder.specs.declared.frame.Frame.TheVariants.{Bag}
-use Rattle.oer_codec_encoder.proofs.Going.{none_small, sets_aside}
+use Rattle.std.proofs.Common.{◌≡◌, ap, sym, ◌∙◌}
+use Rattle.oer_codec_encoder.specs.Frames.{frames_of}
 use Rattle.oer_codec_encoder.proofs.frames.Frames.set_aside.Goals as goal
 
-pub returns : goal.returns
-returns c b k e =
-    let f = c.in-None-Some-Bag in
-    let i = c.self.inside in
-    let next = with_value f.bag c.exchange.new.bag in
-    let at : i.innermost ≡ Some (Bag f.bag) = cc in
-    let old = sym c.self.view_is ∙ none_small i.small i.innermost (Bag f.bag) i.outer.items f.is-0 at in
-    let held = c.deref_mut.ensures.value in
-    sets_aside c.args.self.now (reverse i.outer.items) _ k b f.bag next c.args.octets.now c.exchange.new.octets old (none_small i.small (Some (Bag next)) (Bag next) i.outer.items f.is-0 refl)
-    (c.exchange.ensures.bag ∙ ap (λ (x : BagFrame). record x { outer = c.args.octets.now }) held) (c.exchange.ensures.octets ∙ ap (λ (x : BagFrame). x.outer) held) e
+pub set_other_aside-requires : goal.set_other_aside-requires
+set_other_aside-requires c =
+    let others = c.self.inside.others in
+    let same : others ≡ c.args.self.now = sym (ap (λ e. frames_of e others) c.in-None.is) ∙ c.self.view_is in
+    (c.requires.0, c.requires.1, same ∙ c.requires.2)
+
+pub returns-in-None : goal.returns-in-None
+returns-in-None c b k e =
+    let others = c.self.inside.others in
+    let same : others ≡ c.args.self.now = sym (ap (λ e. frames_of e others) c.in-None.is) ∙ c.self.view_is in
+    let r = c.set_other_aside.ensures b k (same ∙ e) in
+    (r.0, ap (λ e. frames_of e c.set_other_aside.new.others) c.in-None.is ∙ r.1, r.2, r.3)

@@ -33,11 +33,13 @@ pub invariant_of-self-2 : goal.invariant_of-self-2
 invariant_of-self-2 c =
     let was = c.self.inside in
     let more = c.keep.ensures.grown in
-    more_kept was.shared.items more.0 c.keep.new.shared.items was.slots.items c.push.new.self.items was.is_any_present c.self.invariant more.1 c.in_ok-slot.slot c.args.contents.now c.in_ok-slot.ensures.kept c.in_ok-push.ensures.items
+    more_kept was.shared.items more.0 c.keep.new.shared.items was.slots.items c.push.new.self.items was.is_any_present c.self.invariant more.1
+    c.in_ok-slot.slot c.args.contents.now c.in_ok-slot.ensures.kept c.in_ok-push.ensures.items
 
 pub returns-clause-ok : goal.returns-clause-ok
 returns-clause-ok c =
     let was = c.self.inside in
     let more = c.keep.ensures.grown in
-    one_more was.shared.items more.0 c.keep.new.shared.items was.slots.items c.push.new.self.items was.is_any_present c.self.invariant more.1 c.in_ok-slot.slot c.args.contents.now c.in_ok-slot.ensures.kept c.in_ok-push.ensures.items
+    one_more was.shared.items more.0 c.keep.new.shared.items was.slots.items c.push.new.self.items was.is_any_present c.self.invariant more.1
+    c.in_ok-slot.slot c.args.contents.now c.in_ok-slot.ensures.kept c.in_ok-push.ensures.items
     ∙ ap (λ os. os ++ Some c.args.contents.now ∷ []) c.self.view_is

@@ -13,5 +13,6 @@ returns-then-self c d h =
 pub returns-else-self : goal.returns-else-self
 returns-else-self c d h =
     let by_place : ltb (largest (held_runs c.self.inside.runs)) (2 ^ c.self.inside.width) ≡ false = sym c.self.invariant.by_number ∙ c.if-self.false in
-    let at : character_at (held_runs c.self.inside.runs) c.args.code ≡ Some d = of_place (record { runs = held_runs c.self.inside.runs; code_bits = c.self.inside.width }) d c.args.code by_place (rw (← c.self.view_is) at h) in
+    let at : character_at (held_runs c.self.inside.runs) c.args.code ≡ Some d =
+    of_place (record { runs = held_runs c.self.inside.runs; code_bits = c.self.inside.width }) d c.args.code by_place (rw (← c.self.view_is) at h) in
     c.character_at.ensures ∙ ap (λ rs. character_at rs c.from.result) c.as_slice.ensures ∙ ap (character_at (held_runs c.self.inside.runs)) c.from.ensures ∙ at

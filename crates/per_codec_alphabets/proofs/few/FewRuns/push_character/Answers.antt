@@ -15,4 +15,5 @@ returns-then-eq c =
     ∙ ap (λ l. all_of (runs_of l) ++ c.args.character ∷ []) c.self.view_is
 
 pub invariant_of-self-2 : goal.invariant_of-self-2
-invariant_of-self-2 c = more_few c.self.inside.runs c.self.inside.count (record { first = c.args.character; last = c.args.character }) (omega (arith, c.self.invariant.within, c.if-self-eq-PLACES.false)) (omega arith) c.self.invariant
+invariant_of-self-2 c = more_few c.self.inside.runs c.self.inside.count (record { first = c.args.character; last = c.args.character })
+    (omega (arith, c.self.invariant.within, c.if-self-eq-PLACES.false)) (omega arith) c.self.invariant

@@ -4,4 +4,6 @@ use Rattle.per_codec_decoder.proofs.Settling.{uncharacters}
 use Rattle.per_codec_decoder.proofs.decoder.DecoderDecoder.decode_characters.Goals as goal
 
 pub returns-clause-only : goal.returns-clause-only
-returns-clause-only g c = uncharacters c.settle.new.self c.read_characters-answer.result c.settle.result g.S.StaticPermittedAlphabet.kind (sizes_of c.args.constraints.now.size) (alphabet_of c.args.constraints.now.permitted_alphabet) any_count _ _ c.cursor-cursor.result c.self.view_is c.cursor-cursor.ensures c.settle.ensures.same c.settle.ensures.owed c.read_characters-answer.ensures.only
+returns-clause-only g c = uncharacters c.settle.new.self c.read_characters-answer.result c.settle.result g.S.StaticPermittedAlphabet.kind
+    (sizes_of c.args.constraints.now.size) (alphabet_of c.args.constraints.now.permitted_alphabet) any_count _ _ c.cursor-cursor.result c.self.view_is
+    c.cursor-cursor.ensures c.settle.ensures.same c.settle.ensures.owed c.read_characters-answer.ensures.only

@@ -5,4 +5,5 @@ use Rattle.per_codec_decoder.proofs.Finding.{asked_nil}
 use Rattle.per_codec_decoder.proofs.decoder.DecoderDecoder.decode_null.Goals as goal
 
 pub returns-clause-only : goal.returns-clause-only
-returns-clause-only c = unfound c.settle.new.self c.read_null-answer.result c.settle.result asks_nil null _ _ c.cursor-cursor.result c.self.view_is c.cursor-cursor.ensures c.settle.ensures.same c.settle.ensures.owed c.read_null-answer.ensures.only asked_nil
+returns-clause-only c = unfound c.settle.new.self c.read_null-answer.result c.settle.result asks_nil null _ _ c.cursor-cursor.result c.self.view_is
+    c.cursor-cursor.ensures c.settle.ensures.same c.settle.ensures.owed c.read_null-answer.ensures.only asked_nil

@@ -5,9 +5,11 @@ use Rattle.per_codec_encoder.proofs.encoder.Encoder.output_into_vec.Goals as goa
 pub returns-clause-octets : goal.returns-clause-octets
 returns-clause-octets c =
     let bits = c.into_bits.result in
-    taken_out c.self.inside.frames c.self.inside.output bits (is_aligned c.self.inside.variant) c.self.inside.failed c.args.self c.message.result c.self.view_is c.self.invariant c.into_bits.ensures.placed c.message.ensures
+    taken_out c.self.inside.frames c.self.inside.output bits (is_aligned c.self.inside.variant) c.self.inside.failed c.args.self c.message.result
+    c.self.view_is c.self.invariant c.into_bits.ensures.placed c.message.ensures
 
 pub returns-clause-bare : goal.returns-clause-bare
 returns-clause-bare c =
     let bits = c.into_bits.result in
-    none_taken_out c.self.inside.frames c.self.inside.output bits (is_aligned c.self.inside.variant) c.self.inside.failed c.args.self c.message.result c.self.view_is c.self.invariant c.into_bits.ensures.placed c.message.ensures
+    none_taken_out c.self.inside.frames c.self.inside.output bits (is_aligned c.self.inside.variant) c.self.inside.failed c.args.self c.message.result
+    c.self.view_is c.self.invariant c.into_bits.ensures.placed c.message.ensures

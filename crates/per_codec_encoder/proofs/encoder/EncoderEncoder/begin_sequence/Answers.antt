@@ -3,7 +3,10 @@ use Rattle.per_codec_rules.specs.Variants.{is_aligned}
 use Rattle.per_codec_encoder.proofs.encoder.EncoderEncoder.begin_sequence.Goals as goal
 
 pub invariant_of-self-2 : goal.invariant_of-self-2
-invariant_of-self-2 c _ = stays_sound (is_aligned c.self.inside.variant) _ c.self.inside.frames c.begin_components.new.frames c.self.inside.output c.begin_components.new.output (c.self.invariant c.in_ok-begin_record.ensures.ok) (c.in_ok-begin_components.ensures (is_aligned c.self.inside.variant))
+invariant_of-self-2 c _ = stays_sound (is_aligned c.self.inside.variant) _ c.self.inside.frames c.begin_components.new.frames c.self.inside.output
+    c.begin_components.new.output (c.self.invariant c.in_ok-begin_record.ensures.ok) (c.in_ok-begin_components.ensures (is_aligned c.self.inside.variant))
 
 pub returns-clause-ok : goal.returns-clause-ok
-returns-clause-ok c = puts (is_aligned c.self.inside.variant) _ c.self.inside.frames c.begin_components.new.frames c.self.inside.output c.begin_components.new.output c.self.inside.failed c.args.self.now c.self.view_is c.in_ok-begin_record.ensures.ok (c.self.invariant c.in_ok-begin_record.ensures.ok) (c.in_ok-begin_components.ensures (is_aligned c.self.inside.variant))
+returns-clause-ok c = puts (is_aligned c.self.inside.variant) _ c.self.inside.frames c.begin_components.new.frames c.self.inside.output
+    c.begin_components.new.output c.self.inside.failed c.args.self.now c.self.view_is c.in_ok-begin_record.ensures.ok
+    (c.self.invariant c.in_ok-begin_record.ensures.ok) (c.in_ok-begin_components.ensures (is_aligned c.self.inside.variant))

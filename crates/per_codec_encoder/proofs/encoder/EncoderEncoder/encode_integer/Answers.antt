@@ -7,10 +7,19 @@ use Rattle.per_codec_rules.specs.Variants.{is_aligned}
 use Rattle.per_codec_encoder.proofs.encoder.EncoderEncoder.encode_integer.Goals as goal
 
 pub invariant_of-self-2 : goal.invariant_of-self-2
-invariant_of-self-2 g c _ = adds_sound (is_aligned c.self.inside.variant) (whole (bounds_of c.args.constraints.now.value) (held_of c.args.constraints.now.value g.I.IntegerType.held) (g.I.IntegerType.value c.args.value.now)) _ c.self.inside.frames c.self.inside.output c.push_integer.new.output (λ s. refl) (c.self.invariant c.in_ok-begin_record.ensures.ok) c.in_ok-push_integer.ensures
+invariant_of-self-2 g c _ = adds_sound (is_aligned c.self.inside.variant)
+    (whole (bounds_of c.args.constraints.now.value) (held_of c.args.constraints.now.value g.I.IntegerType.held)
+    (g.I.IntegerType.value c.args.value.now)) _ c.self.inside.frames c.self.inside.output c.push_integer.new.output (λ s. refl)
+    (c.self.invariant c.in_ok-begin_record.ensures.ok) c.in_ok-push_integer.ensures
 
 pub returns-clause-ok : goal.returns-clause-ok
-returns-clause-ok g c = adds_puts (is_aligned c.self.inside.variant) (whole (bounds_of c.args.constraints.now.value) (held_of c.args.constraints.now.value g.I.IntegerType.held) (g.I.IntegerType.value c.args.value.now)) _ c.self.inside.frames c.self.inside.output c.push_integer.new.output c.self.inside.failed c.args.self.now (λ s. refl) c.self.view_is c.in_ok-begin_record.ensures.ok (c.self.invariant c.in_ok-begin_record.ensures.ok) c.in_ok-push_integer.ensures
+returns-clause-ok g c = adds_puts (is_aligned c.self.inside.variant)
+    (whole (bounds_of c.args.constraints.now.value) (held_of c.args.constraints.now.value g.I.IntegerType.held)
+    (g.I.IntegerType.value c.args.value.now)) _ c.self.inside.frames c.self.inside.output c.push_integer.new.output c.self.inside.failed
+    c.args.self.now (λ s. refl) c.self.view_is c.in_ok-begin_record.ensures.ok (c.self.invariant c.in_ok-begin_record.ensures.ok) c.in_ok-push_integer.ensures
 
 pub returns-in_err-push_integer-clause-only : goal.returns-in_err-push_integer-clause-only
-returns-in_err-push_integer-clause-only g c = raised _ _ _ c.from_residual-in_err-push_integer.ensures.1 (form_refused (is_aligned c.self.inside.variant) (whole (bounds_of c.args.constraints.now.value) (held_of c.args.constraints.now.value g.I.IntegerType.held) (g.I.IntegerType.value c.args.value.now)) _ c.self.inside.frames c.self.inside.output c.self.inside.failed c.args.self.now _ (λ s. refl) c.self.view_is (c.self.invariant c.in_ok-begin_record.ensures.ok) c.in_err-push_integer.ensures)
+returns-in_err-push_integer-clause-only g c = raised _ _ _ c.from_residual-in_err-push_integer.ensures.1
+    (form_refused (is_aligned c.self.inside.variant) (whole (bounds_of c.args.constraints.now.value)
+    (held_of c.args.constraints.now.value g.I.IntegerType.held) (g.I.IntegerType.value c.args.value.now)) _ c.self.inside.frames c.self.inside.output
+    c.self.inside.failed c.args.self.now _ (λ s. refl) c.self.view_is (c.self.invariant c.in_ok-begin_record.ensures.ok) c.in_err-push_integer.ensures)

@@ -8,10 +8,17 @@ use Rattle.per_codec_rules.specs.Variants.{is_aligned}
 use Rattle.per_codec_encoder.proofs.encoder.EncoderEncoder.encode_octet_string.Goals as goal
 
 pub invariant_of-self-2 : goal.invariant_of-self-2
-invariant_of-self-2 c _ = adds_sound (is_aligned c.self.inside.variant) (octets (sizes_of c.args.constraints.now.size) (counts_of c.args.held) c.args.value.now) _ c.self.inside.frames c.self.inside.output c.push_octet_string.new.output (λ s. refl) (c.self.invariant c.in_ok-begin_record.ensures.ok) c.in_ok-push_octet_string.ensures
+invariant_of-self-2 c _ = adds_sound (is_aligned c.self.inside.variant)
+    (octets (sizes_of c.args.constraints.now.size) (counts_of c.args.held) c.args.value.now) _ c.self.inside.frames c.self.inside.output
+    c.push_octet_string.new.output (λ s. refl) (c.self.invariant c.in_ok-begin_record.ensures.ok) c.in_ok-push_octet_string.ensures
 
 pub returns-clause-ok : goal.returns-clause-ok
-returns-clause-ok c = adds_puts (is_aligned c.self.inside.variant) (octets (sizes_of c.args.constraints.now.size) (counts_of c.args.held) c.args.value.now) _ c.self.inside.frames c.self.inside.output c.push_octet_string.new.output c.self.inside.failed c.args.self.now (λ s. refl) c.self.view_is c.in_ok-begin_record.ensures.ok (c.self.invariant c.in_ok-begin_record.ensures.ok) c.in_ok-push_octet_string.ensures
+returns-clause-ok c = adds_puts (is_aligned c.self.inside.variant)
+    (octets (sizes_of c.args.constraints.now.size) (counts_of c.args.held) c.args.value.now) _ c.self.inside.frames c.self.inside.output
+    c.push_octet_string.new.output c.self.inside.failed c.args.self.now (λ s. refl) c.self.view_is c.in_ok-begin_record.ensures.ok
+    (c.self.invariant c.in_ok-begin_record.ensures.ok) c.in_ok-push_octet_string.ensures
 
 pub returns-in_err-push_octet_string-clause-only : goal.returns-in_err-push_octet_string-clause-only
-returns-in_err-push_octet_string-clause-only c = raised _ _ _ c.from_residual-in_err-push_octet_string.ensures.1 (form_refused (is_aligned c.self.inside.variant) (octets (sizes_of c.args.constraints.now.size) (counts_of c.args.held) c.args.value.now) _ c.self.inside.frames c.self.inside.output c.self.inside.failed c.args.self.now _ (λ s. refl) c.self.view_is (c.self.invariant c.in_ok-begin_record.ensures.ok) c.in_err-push_octet_string.ensures)
+returns-in_err-push_octet_string-clause-only c = raised _ _ _ c.from_residual-in_err-push_octet_string.ensures.1
+    (form_refused (is_aligned c.self.inside.variant) (octets (sizes_of c.args.constraints.now.size) (counts_of c.args.held) c.args.value.now) _
+    c.self.inside.frames c.self.inside.output c.self.inside.failed c.args.self.now _ (λ s. refl) c.self.view_is (c.self.invariant c.in_ok-begin_record.ensures.ok) c.in_err-push_octet_string.ensures)

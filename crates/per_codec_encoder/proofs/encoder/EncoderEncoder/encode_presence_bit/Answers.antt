@@ -6,14 +6,26 @@ use Rattle.per_codec_rules.specs.Variants.{is_aligned}
 use Rattle.per_codec_encoder.proofs.encoder.EncoderEncoder.encode_presence_bit.Goals as goal
 
 pub invariant_of-self-2 : goal.invariant_of-self-2
-invariant_of-self-2 c _ = stays_sound (is_aligned c.self.inside.variant) _ c.self.inside.frames c.encode_presence_bit.new.self c.self.inside.output c.encode_presence_bit.new.output (c.self.invariant c.in_ok-begin_record.ensures.ok) (c.in_ok-encode_presence_bit.ensures (is_aligned c.self.inside.variant))
+invariant_of-self-2 c _ = stays_sound (is_aligned c.self.inside.variant) _ c.self.inside.frames c.encode_presence_bit.new.self c.self.inside.output
+    c.encode_presence_bit.new.output (c.self.invariant c.in_ok-begin_record.ensures.ok) (c.in_ok-encode_presence_bit.ensures (is_aligned c.self.inside.variant))
 
 pub returns-clause-ok : goal.returns-clause-ok
-returns-clause-ok c = puts (is_aligned c.self.inside.variant) _ c.self.inside.frames c.encode_presence_bit.new.self c.self.inside.output c.encode_presence_bit.new.output c.self.inside.failed c.args.self.now c.self.view_is c.in_ok-begin_record.ensures.ok (c.self.invariant c.in_ok-begin_record.ensures.ok) (c.in_ok-encode_presence_bit.ensures (is_aligned c.self.inside.variant))
+returns-clause-ok c = puts (is_aligned c.self.inside.variant) _ c.self.inside.frames c.encode_presence_bit.new.self c.self.inside.output
+    c.encode_presence_bit.new.output c.self.inside.failed c.args.self.now c.self.view_is c.in_ok-begin_record.ensures.ok
+    (c.self.invariant c.in_ok-begin_record.ensures.ok) (c.in_ok-encode_presence_bit.ensures (is_aligned c.self.inside.variant))
 
 pub returns-in_err-encode_presence_bit-clause-only : goal.returns-in_err-encode_presence_bit-clause-only
-returns-in_err-encode_presence_bit-clause-only c = raised _ _ _ c.from_residual-in_err-encode_presence_bit.ensures.1 (is_refused (is_aligned c.self.inside.variant) (presence_bit c.args.present) c.self.inside.frames c.self.inside.output c.self.inside.failed c.args.self.now _ c.self.view_is (c.self.invariant c.in_ok-begin_record.ensures.ok) (c.in_err-encode_presence_bit.ensures (is_aligned c.self.inside.variant)))
+returns-in_err-encode_presence_bit-clause-only c = raised _ _ _ c.from_residual-in_err-encode_presence_bit.ensures.1
+    (is_refused (is_aligned c.self.inside.variant) (presence_bit c.args.present) c.self.inside.frames c.self.inside.output c.self.inside.failed
+    c.args.self.now _ c.self.view_is (c.self.invariant c.in_ok-begin_record.ensures.ok) (c.in_err-encode_presence_bit.ensures (is_aligned c.self.inside.variant)))
 
 pub returns-in_err-encode_presence_bit-clause-call : goal.returns-in_err-encode_presence_bit-clause-call
 returns-in_err-encode_presence_bit-clause-call c =
-    record { failed = search rules; front = search rules; already = search rules; after = never_after (is_aligned c.self.inside.variant) (presence_bit c.args.present) c.self.inside.frames c.self.inside.output _ c.from_residual-in_err-encode_presence_bit.result c.from_residual-in_err-encode_presence_bit.ensures.1 (c.in_err-encode_presence_bit.ensures (is_aligned c.self.inside.variant)) }
+    record {
+      failed = search rules;
+      front = search rules;
+      already = search rules;
+      after =
+          never_after (is_aligned c.self.inside.variant) (presence_bit c.args.present) c.self.inside.frames c.self.inside.output _
+          c.from_residual-in_err-encode_presence_bit.result c.from_residual-in_err-encode_presence_bit.ensures.1 (c.in_err-encode_presence_bit.ensures (is_aligned c.self.inside.variant));
+    }

@@ -8,7 +8,13 @@ use Rattle.per_codec_packing.proofs.Sharing.{part_of, field_list_at, cut_both}
 use Rattle.per_codec_packing.proofs.field_lists.FieldLists.get.Goals as goal
 
 pub index-part-requires : goal.index-part-requires
-index-part-requires c = omega (arith, length-map c.self.inside.parts.items (field_list_in c.self.inside.bits c.self.inside.paddings.items), c.self.inside.parts.ok.0, ap length c.self.view_is, c.requires)
+index-part-requires c = omega (
+  arith,
+  length-map c.self.inside.parts.items (field_list_in c.self.inside.bits c.self.inside.paddings.items),
+  c.self.inside.parts.ok.0,
+  ap length c.self.view_is,
+  c.requires,
+)
 
 pub split_at-requires : goal.split_at-requires
 split_at-requires c =
@@ -50,8 +56,12 @@ invariant_of-result c =
     let all = c.self.inside in
     let p = c.index-part.result.now in
     let h = part_of all.bits all.paddings.items all.parts.items c.args.self.now c.args.index p c.self.invariant c.self.view_is c.requires c.index-part.ensures in
-    let bits : bits_of c.split_at-2.result.1 ≡ cut p.bits all.bits = c.split_at-2.ensures.rest ∙ ap (drop p.bits.from) (c.split_at.ensures.front ∙ ap (take p.bits.to) c.as_bitslice.ensures.bits) ∙ cut_both p.bits all.bits h.bits_ordered in
-    record { ascend = subst (λ l. Ascend 0 (cut p.paddings l) (length (bits_of c.split_at-2.result.1))) (sym c.deref.ensures.value) (subst (λ l. Ascend 0 (cut p.paddings all.paddings.items) (length l)) (sym bits) h.ascend) }
+    let bits : bits_of c.split_at-2.result.1 ≡ cut p.bits all.bits = c.split_at-2.ensures.rest ∙
+    ap (drop p.bits.from) (c.split_at.ensures.front ∙ ap (take p.bits.to) c.as_bitslice.ensures.bits) ∙ cut_both p.bits all.bits h.bits_ordered in
+    record {
+      ascend = subst (λ l. Ascend 0 (cut p.paddings l) (length (bits_of c.split_at-2.result.1))) (sym c.deref.ensures.value)
+          (subst (λ l. Ascend 0 (cut p.paddings all.paddings.items) (length l)) (sym bits) h.ascend);
+    }
 
 pub returns : goal.returns
 unfolding field_list_of
@@ -59,7 +69,8 @@ returns c =
     let all = c.self.inside in
     let p = c.index-part.result.now in
     let h = part_of all.bits all.paddings.items all.parts.items c.args.self.now c.args.index p c.self.invariant c.self.view_is c.requires c.index-part.ensures in
-    let bits : bits_of c.split_at-2.result.1 ≡ cut p.bits all.bits = c.split_at-2.ensures.rest ∙ ap (drop p.bits.from) (c.split_at.ensures.front ∙ ap (take p.bits.to) c.as_bitslice.ensures.bits) ∙ cut_both p.bits all.bits h.bits_ordered in
+    let bits : bits_of c.split_at-2.result.1 ≡ cut p.bits all.bits = c.split_at-2.ensures.rest ∙
+    ap (drop p.bits.from) (c.split_at.ensures.front ∙ ap (take p.bits.to) c.as_bitslice.ensures.bits) ∙ cut_both p.bits all.bits h.bits_ordered in
     let within : c.args.index < length all.parts.items = omega (arith, length-map all.parts.items (field_list_in all.bits all.paddings.items), ap length c.self.view_is, c.requires) in
     ap (λ l. spread 0 l (cut p.paddings c.deref.result.now)) bits
     ∙ ap (λ l. spread 0 (cut p.bits all.bits) (cut p.paddings l)) c.deref.ensures.value

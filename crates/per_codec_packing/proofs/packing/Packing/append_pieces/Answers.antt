@@ -8,7 +8,8 @@ use Rattle.per_codec_packing.proofs.packing.Packing.append_pieces.Goals as goal
 pub split_at-requires : goal.split_at-requires
 split_at-requires c =
     let at = c.loop-padding in
-    not_past (bits_of c.args.field_list.bits) c.args.field_list.paddings.now at.from at.padding-index c.args.self.now at.self at.invariant (get_or c.args.field_list.paddings.now at.padding-index 0) c.loop-padding-test.true refl
+    not_past (bits_of c.args.field_list.bits) c.args.field_list.paddings.now at.from at.padding-index c.args.self.now at.self at.invariant
+    (get_or c.args.field_list.paddings.now at.padding-index 0) c.loop-padding-test.true refl
 
 pub split_at-requires-in-loop-padding : goal.split_at-requires-in-loop-padding
 split_at-requires-in-loop-padding c =

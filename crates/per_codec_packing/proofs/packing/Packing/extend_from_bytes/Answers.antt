@@ -13,7 +13,9 @@ returns-then-bytes-eq1-clause-ok c =
     bits_added c.self.inside.bits c.self.inside.paddings.items c.self.inside.is_placed c.self.invariant c.args.self.now c.self.view_is bits c.push_bits.new.self added
 
 pub invariant_of-self-2 : goal.invariant_of-self-2
-invariant_of-self-2 c = with_bits c.self.inside.bits c.self.inside.paddings.items c.self.inside.is_placed c.self.invariant (octet_bits c.args.bytes.now) c.extend_from_bytes.new.self c.in_ok-extend_from_bytes.ensures.ok
+invariant_of-self-2 c = with_bits c.self.inside.bits c.self.inside.paddings.items c.self.inside.is_placed c.self.invariant
+    (octet_bits c.args.bytes.now) c.extend_from_bytes.new.self c.in_ok-extend_from_bytes.ensures.ok
 
 pub returns-clause-ok : goal.returns-clause-ok
-returns-clause-ok c = bits_added c.self.inside.bits c.self.inside.paddings.items c.self.inside.is_placed c.self.invariant c.args.self.now c.self.view_is (octet_bits c.args.bytes.now) c.extend_from_bytes.new.self c.in_ok-extend_from_bytes.ensures.ok
+returns-clause-ok c = bits_added c.self.inside.bits c.self.inside.paddings.items c.self.inside.is_placed c.self.invariant c.args.self.now
+    c.self.view_is (octet_bits c.args.bytes.now) c.extend_from_bytes.new.self c.in_ok-extend_from_bytes.ensures.ok

@@ -13,5 +13,6 @@ pub returns-clause-same : goal.returns-clause-same
 returns-clause-same c =
     let w : ℕ = c.args.width in
     let none : 0 ≡ c.args.self.due = omega (arith, c.if-self-gt0.false) in
-    refilled w c.min-due.result (c.min-due.result * w) c.first_number.result c.args.self.number (bits_of c.args.self.rest) (bits_of c.split_at.result.1) refl c.first_number.ensures.digits c.split_at.ensures.rest
+    refilled w c.min-due.result (c.min-due.result * w) c.first_number.result c.args.self.number (bits_of c.args.self.rest)
+    (bits_of c.split_at.result.1) refl c.first_number.ensures.digits c.split_at.ensures.rest
     ∙ ap (λ k. binary (k * w) c.args.self.number ++ bits_of c.args.self.rest) none

@@ -17,8 +17,11 @@ loop-place-preserved g c =
     let n = length-forms a cs in
     let within : c.loop-place.place < length cs = omega (arith, n, c.requires.within, c.loop-place-test.true) in
     let code : c.from.result ≡ unwrap_or c.code.result 0 = c.from.ensures ∙ c.unwrap_or-code.ensures in
-    let pushed : c.push_bits.new.self ≡ plus c.loop-place.output (as_field_list (text_of a c.char_at.result)) = c.in_ok-push_bits.ensures.ok ∙ ap (λ b. plus c.loop-place.output (as_field_list (binary b c.from.result))) c.width-width.ensures.bits ∙ ap (λ k. plus c.loop-place.output (as_field_list (binary a.code_bits k))) (code ∙ ap (λ o. unwrap_or o 0) c.code.ensures) in
-    one_more a cs c.args.from c.loop-place.place c.char_at.result c.args.output.now c.loop-place.output c.push_bits.new.self c.loop-place.auto.place within c.char_at.ensures c.loop-place.invariant pushed
+    let pushed : c.push_bits.new.self ≡ plus c.loop-place.output (as_field_list (text_of a c.char_at.result)) = c.in_ok-push_bits.ensures.ok ∙
+    ap (λ b. plus c.loop-place.output (as_field_list (binary b c.from.result))) c.width-width.ensures.bits ∙
+    ap (λ k. plus c.loop-place.output (as_field_list (binary a.code_bits k))) (code ∙ ap (λ o. unwrap_or o 0) c.code.ensures) in
+    one_more a cs c.args.from c.loop-place.place c.char_at.result c.args.output.now c.loop-place.output c.push_bits.new.self c.loop-place.auto.place
+    within c.char_at.ensures c.loop-place.invariant pushed
 
 pub returns : goal.returns
 returns g c =

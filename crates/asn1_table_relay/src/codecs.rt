@@ -1,0 +1,135 @@
+//! Values of the types of a table are read and written by each set of encoding rules.
+#![tactic(auto, using(std::proofs::lemmas::Grind::common_steps))]
+
+ghost use Rattle.std.specs.Prelude.{◌≡◌, [], ◌∷◌, IfOk, IfErr};
+ghost use Rattle.asn1_model.specs.Rules.{uper, aper, uper_strict, aper_strict, oer, coer};
+ghost use Rattle.asn1_relay_core.specs.Coding.{rules_of};
+ghost use Rattle.asn1_schema_decode.specs.Messages.{NoMessage};
+ghost use Rattle.asn1_schema_encode.specs.Written.{IsOfValue};
+ghost use Rattle.asn1_table_types.specs.Meaning.{type_at};
+ghost use Rattle.asn1_table_walker.specs.Frames.{records_of};
+ghost use Rattle.asn1_table_walker.specs.Fronts.{TellsOnto};
+ghost use Rattle.asn1_table_walker.specs.Texts.{EncodedIn, NotEncodedIn};
+
+use asn1_relay_core::Codec;
+use asn1_schema_errors::{DecodeError, EncodeError};
+use asn1_table_oer::{decode_oer, encode_oer};
+use asn1_table_per::{decode_per, encode_per};
+use asn1_table_walker::{Event, ServedTypes};
+use oer_codec::oer::EncodingRules;
+use per_codec_encoder::EncoderOptions;
+use per_codec_reading::PackedRules;
+use std::alloc::Global;
+
+/// Reads the value of the type at this index of a table with whose encoding in these rules the input begins: the
+/// records of its normal form, and the octets after it.
+///
+/// # Errors
+///
+/// `OutOfMemory` if memory runs out. Otherwise only if no prefix of the input that is shorter than 2^60 octets is an
+/// encoding of a value of the type with at most 128 nested levels.
+pub fn read_front<'input>(
+    alloc: Global,
+    types: &ServedTypes,
+    place: usize,
+    from: Codec,
+    input: &'input [u8],
+) -> Result<(Vec<Event>, &'input [u8]), DecodeError>
+    ensures ok { IfOk result (λ x. TellsOnto (rules_of from) (type_at types.now.types.nodes.items 128 place)
+        (records_of types.now.types.nodes.items x.0.items) input.now x.1.now) }
+    ensures only { IfErr result
+        (NoMessage (rules_of from) (λ _. type_at types.now.types.nodes.items 128 place) input.now) }
+    ensures fresh { IfErr result (λ e. e ≡ DecodeError.AlreadyFailed → ⊥) }
+{
+    match from {
+        Codec::Uper => decode_per(alloc, types, place, input, PackedRules::Uper),
+        Codec::Aper => decode_per(alloc, types, place, input, PackedRules::Aper),
+        Codec::UperStrict => decode_per(alloc, types, place, input, PackedRules::UperStrict),
+        Codec::AperStrict => decode_per(alloc, types, place, input, PackedRules::AperStrict),
+        Codec::Oer => decode_oer(alloc, types, place, input, EncodingRules::Oer),
+        Codec::Coer => decode_oer(alloc, types, place, input, EncodingRules::Coer),
+    }
+}
+
+/// The canonical encoding by these rules of the value with these records.
+///
+/// # Errors
+///
+/// `TooLongValue` for an encoding of 2^60 octets or more and for nothing else, `OutOfMemory`, and others if the value
+/// has no encoding of any length.
+pub fn write(
+    alloc: Global,
+    types: &ServedTypes,
+    to: Codec,
+    tape: &[Event],
+) -> Result<Vec<u8>, EncodeError>
+    ensures ok { IfOk result
+        (λ octets. EncodedIn (rules_of to ∷ []) (records_of types.now.types.nodes.items tape.now) octets.items) }
+    ensures only { IfErr result
+        (NotEncodedIn (rules_of to ∷ []) (records_of types.now.types.nodes.items tape.now)) }
+    ensures kinds { IfErr result IsOfValue }
+{
+    match to {
+        Codec::Uper => write_unaligned(alloc, types, tape),
+        Codec::Aper => write_aligned(alloc, types, tape),
+        Codec::UperStrict => write_unaligned(alloc, types, tape),
+        Codec::AperStrict => write_aligned(alloc, types, tape),
+        Codec::Oer => write_octets(alloc, types, tape),
+        Codec::Coer => write_octets(alloc, types, tape),
+    }
+}
+
+// UPER, lenient or strict: what is written is the same.
+fn write_unaligned(
+    alloc: Global,
+    types: &ServedTypes,
+    tape: &[Event],
+) -> Result<Vec<u8>, EncodeError>
+    ensures ok { IfOk result
+        (λ octets. EncodedIn (uper ∷ []) (records_of types.now.types.nodes.items tape.now) octets.items) }
+    ensures same { IfOk result
+        (λ octets. EncodedIn (uper_strict ∷ []) (records_of types.now.types.nodes.items tape.now) octets.items) }
+    ensures only { IfErr result (NotEncodedIn (uper ∷ []) (records_of types.now.types.nodes.items tape.now)) }
+    ensures same_only { IfErr result
+        (NotEncodedIn (uper_strict ∷ []) (records_of types.now.types.nodes.items tape.now)) }
+    ensures kinds { IfErr result IsOfValue }
+{
+    match encode_per(alloc, types, tape, EncoderOptions::unaligned()) {
+        Ok(octets) => Ok(octets),
+        Err(error) => Err(error),
+    }
+}
+
+// The same of APER.
+fn write_aligned(alloc: Global, types: &ServedTypes, tape: &[Event]) -> Result<Vec<u8>, EncodeError>
+    ensures ok { IfOk result
+        (λ octets. EncodedIn (aper ∷ []) (records_of types.now.types.nodes.items tape.now) octets.items) }
+    ensures same { IfOk result
+        (λ octets. EncodedIn (aper_strict ∷ []) (records_of types.now.types.nodes.items tape.now) octets.items) }
+    ensures only { IfErr result (NotEncodedIn (aper ∷ []) (records_of types.now.types.nodes.items tape.now)) }
+    ensures same_only { IfErr result
+        (NotEncodedIn (aper_strict ∷ []) (records_of types.now.types.nodes.items tape.now)) }
+    ensures kinds { IfErr result IsOfValue }
+{
+    match encode_per(alloc, types, tape, EncoderOptions::aligned()) {
+        Ok(octets) => Ok(octets),
+        Err(error) => Err(error),
+    }
+}
+
+// OER and COER: what is written is the same.
+fn write_octets(alloc: Global, types: &ServedTypes, tape: &[Event]) -> Result<Vec<u8>, EncodeError>
+    ensures ok { IfOk result
+        (λ octets. EncodedIn (oer ∷ []) (records_of types.now.types.nodes.items tape.now) octets.items) }
+    ensures same { IfOk result
+        (λ octets. EncodedIn (coer ∷ []) (records_of types.now.types.nodes.items tape.now) octets.items) }
+    ensures only { IfErr result (NotEncodedIn (oer ∷ []) (records_of types.now.types.nodes.items tape.now)) }
+    ensures same_only { IfErr result
+        (NotEncodedIn (coer ∷ []) (records_of types.now.types.nodes.items tape.now)) }
+    ensures kinds { IfErr result IsOfValue }
+{
+    match encode_oer(alloc, types, tape) {
+        Ok(octets) => Ok(octets),
+        Err(error) => Err(error),
+    }
+}

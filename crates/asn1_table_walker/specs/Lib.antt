@@ -1,0 +1,5 @@
+pub mod Served
+pub mod Frames
+pub mod Replays
+pub mod Fronts
+pub mod Texts

@@ -1,7 +1,0 @@
--- Padding after whole octets.
-use Rattle.std.specs.Prelude.{◌≡◌, ℕ, ◌%◌, ⊤, List, [], ◌∷◌}
-
--- Whole octets precede each padding, so that it adds no bit to a field-list by itself.
-abbrev pub AreWhole : List ℕ → Type 0
-AreWhole [] = ⊤
-AreWhole (f ∷ fs) = (f % 8 ≡ 0) × AreWhole fs
