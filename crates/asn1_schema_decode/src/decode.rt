@@ -26,7 +26,7 @@ ghost use Rattle.asn1_schema_errors.specs.Calls.{DecoderCall};
 
 use asn1_schema_constraints::{Bounded, Constraints};
 use asn1_schema_errors::{CodecKind, DecodeError};
-use asn1_schema_tags::{Chosen, Enumerated, Tag, TagTables};
+use asn1_schema_tags::{Chosen, Enumerated, EnumerationItems, Tag, TagTables, TypeItems};
 use asn1_schema_types::AsnType;
 use asn1_values_alphabets::StaticPermittedAlphabet;
 use asn1_values_bit_strings::BitString;
@@ -171,13 +171,33 @@ pub trait Decoder {
             (NoRecord step too_few (asks_whole_under constraints.now I.held) self.old self.new) }
         ensures call { DecoderCall has_failed self.old self.new result };
 
+    /// ENUMERATED (X.680 20): an item of these items.
+    fn decode_item_of<I: EnumerationItems>(
+        &mut self,
+        tag: Tag,
+        items: &I,
+    ) -> Result<I::Item, DecodeError>
+        ensures ok { IfOk result (λ x. step self.old
+            (one_of (I.roots items.now) (I.extensible items.now) (I.additions items.now) (I.number x)) self.new) }
+        ensures level { OnOk result (levels self.new ≡ levels self.old) }
+        ensures only { IfErr result (NoRecord step too_few
+            (asks_one_of (I.roots items.now) (I.extensible items.now) (I.additions items.now)) self.old self.new) }
+        ensures call { DecoderCall has_failed self.old self.new result };
+
     /// ENUMERATED (X.680 20): an item of the type.
-    fn decode_enumerated<T: Enumerated>(&mut self, tag: Tag) -> Result<T, DecodeError>
+    #[inline(always)]
+    final fn decode_enumerated<T: Enumerated>(&mut self, tag: Tag) -> Result<T, DecodeError>
+    where
+        Self: Sized,
         ensures ok { IfOk result (λ x. step self.old (one_of T.roots T.extensible T.additions (T.number x)) self.new) }
         ensures level { OnOk result (levels self.new ≡ levels self.old) }
         ensures only { IfErr result
             (NoRecord step too_few (asks_one_of T.roots T.extensible T.additions) self.old self.new) }
-        ensures call { DecoderCall has_failed self.old self.new result };
+        ensures call { DecoderCall has_failed self.old self.new result }
+    {
+        let value = self.decode_item_of(tag, &TypeItems::<T>::new())?;
+        Ok(value)
+    }
 
     /// BIT STRING (X.680 22) under a size constraint; `held` bounds the number of bits that the user-defined type can
     /// hold.

@@ -16,7 +16,7 @@ ghost use Rattle.asn1_schema_errors.specs.Calls.{EncoderCall};
 
 use asn1_schema_constraints::{Bounded, Constraints};
 use asn1_schema_errors::{CodecKind, EncodeError};
-use asn1_schema_tags::{Chosen, Enumerated, Identifier, Tag};
+use asn1_schema_tags::{Chosen, Enumerated, EnumerationItems, Identifier, Tag, TypeItems};
 use asn1_schema_types::AsnType;
 use asn1_values_alphabets::StaticPermittedAlphabet;
 use asn1_values_bits::BitStr;
@@ -76,18 +76,41 @@ pub trait Encoder {
         ensures only { IfErr result (Refused step (whole_under constraints.now I.held (I.value value.now)) self.old) }
         ensures call { EncoderCall has_failed front self.old self.new result };
 
-    /// ENUMERATED (X.680 20): an item, given by its number and its enumeration index.
-    fn encode_enumerated<T: Enumerated>(
+    /// ENUMERATED (X.680 20): an item of these items, by its number and its enumeration index.
+    fn encode_item_of<I: EnumerationItems>(
+        &mut self,
+        tag: Tag,
+        items: &I,
+        item: &I::Item,
+        identifier: Identifier,
+    ) -> Result<(), EncodeError>
+        ensures ok { OnOk result (step self.old
+            (one_of (I.roots items.now) (I.extensible items.now) (I.additions items.now) (I.number item.now))
+            self.new) }
+        ensures only { IfErr result (Refused step
+            (one_of (I.roots items.now) (I.extensible items.now) (I.additions items.now) (I.number item.now))
+            self.old) }
+        ensures call { EncoderCall has_failed front self.old self.new result };
+
+    /// ENUMERATED (X.680 20): an item of a type.
+    #[inline(always)]
+    final fn encode_enumerated<T: Enumerated>(
         &mut self,
         tag: Tag,
         value: &T,
         identifier: Identifier,
     ) -> Result<(), EncodeError>
+    where
+        Self: Sized,
         ensures ok { OnOk result
             (step self.old (one_of T.roots T.extensible T.additions (T.number value.now)) self.new) }
         ensures only { IfErr result
             (Refused step (one_of T.roots T.extensible T.additions (T.number value.now)) self.old) }
-        ensures call { EncoderCall has_failed front self.old self.new result };
+        ensures call { EncoderCall has_failed front self.old self.new result }
+    {
+        self.encode_item_of(tag, &TypeItems::<T>::new(), value, identifier)?;
+        Ok(())
+    }
 
     /// BIT STRING (X.680 22) under a size constraint; `held` bounds the number of bits that the user-defined type can
     /// hold.

@@ -26,7 +26,7 @@ use Rattle.asn1_schema_laws.specs.Records.{Record, Question, question, whole, on
 use Rattle.asn1_schema_laws.specs.Records.{list_begins, bag_begins, choice_begins, asks_list, asks_bag}
 use Rattle.asn1_schema_laws.specs.Records.{asks_sequence, asks_set, asks_group, asks_choice, asks_end, ends}
 use Rattle.asn1_schema_records.specs.Kept.{kept_kind}
-use Rattle.asn1_schema_tags.specs.Items.{IsPlaced, IsNone}
+use Rattle.asn1_schema_tags.specs.Items.{IsItem, IsNone}
 
 -- The state of a decoder: the records that are left, how many more levels may be nested, how many could be at the
 -- start, whether it has failed, and its encoding rules.
@@ -42,10 +42,6 @@ abbrev pub MayHold : StringKind → List ℕ → Type 0
 MayHold utf8 cs = Unit {0}
 MayHold k cs = may_hold k cs ≡ true
 
--- The number is that of a root item, or of an additional item.
-abbrev pub IsListed : List ℤ → Bool → List ℤ → ℤ → Type 0
-IsListed roots e adds v = (added : Bool) × (i : ℕ) × IsPlaced roots e adds v added i
-
 -- The kept record answers the question for this record: the bounds of the type are equal, the user-defined type can
 -- hold the value, and bounds without an extension marker allow it. An enumeration has an item with this number, and a
 -- choice has an alternative with this index. The record of a SEQUENCE OF or SET OF may have any count of elements that
@@ -53,7 +49,7 @@ IsListed roots e adds v = (added : Bool) × (i : ℕ) × IsPlaced roots e adds v
 abbrev pub IsKept : Record → Record → Type 0
 IsKept k (whole b h v) = (k ≡ whole b any_number v) × (is_within h v ≡ true)
     × ((b.extensible || is_within b.range v) ≡ true)
-IsKept k (one_of roots e adds v) = (k ≡ one_of [] e [] v) × IsListed roots e adds v
+IsKept k (one_of roots e adds v) = (k ≡ one_of [] e [] v) × IsItem roots e adds v
 IsKept k (bits z h bs) = (k ≡ bits z any_count bs) × (is_count_within h (length bs) ≡ true)
 IsKept k (octets z h os) = (k ≡ octets z any_count os) × (is_count_within h (length os) ≡ true)
 IsKept k (characters t z a h cs) = (k ≡ characters (kept_kind t) z any_alphabet any_count cs) × MayHold t cs

@@ -34,7 +34,7 @@ use crate::{Item, is_extensible};
 use asn1_schema_constraints::{Bounded, Constraints};
 use asn1_schema_decode::{Decoder, go_on};
 use asn1_schema_errors::{CodecKind, DecodeError};
-use asn1_schema_tags::{Chosen, Enumerated, Tag, TagTables};
+use asn1_schema_tags::{Chosen, EnumerationItems, Tag, TagTables};
 use asn1_values_alphabets::StaticPermittedAlphabet;
 use asn1_values_bit_strings::BitString;
 use asn1_values_identifiers::ObjectIdentifier;
@@ -248,19 +248,25 @@ impl Decoder for RecordDecoder {
         }
     }
 
-    fn decode_enumerated<T: Enumerated>(&mut self, _tag: Tag) -> Result<T, DecodeError>
-        ensures ok { IfOk result (λ x. Takes self.old (one_of T.roots T.extensible T.additions (T.number x)) self.new) }
+    fn decode_item_of<I: EnumerationItems>(
+        &mut self,
+        _tag: Tag,
+        items: &I,
+    ) -> Result<I::Item, DecodeError>
+        ensures ok { IfOk result (λ x. Takes self.old
+            (one_of (I.roots items.now) (I.extensible items.now) (I.additions items.now) (I.number x)) self.new) }
         ensures level { OnOk result (self.new.levels ≡ self.old.levels) }
-        ensures only { IfErr result
-            (NoRecord Takes AtOnce (asks_one_of T.roots T.extensible T.additions) self.old self.new) }
+        ensures only { IfErr result (NoRecord Takes AtOnce
+            (asks_one_of (I.roots items.now) (I.extensible items.now) (I.additions items.now)) self.old self.new) }
         ensures call { DecoderCall (λ s. s.failed ≡ true) self.old self.new result }
-        ensures kind { IfErr result (IsRefused self.old (IsMisfitItem T.roots T.extensible T.additions)) }
+        ensures kind { IfErr result (IsRefused self.old
+            (IsMisfitItem (I.roots items.now) (I.extensible items.now) (I.additions items.now))) }
     {
         let item = self.take_next()?;
-        let Some(number) = item.into_one_of(is_extensible::<T>()) else {
+        let Some(number) = item.into_one_of(is_extensible(items)) else {
             return Err(self.refuse(DecodeError::NotValidCanonicalEncoding));
         };
-        match T::from_discriminant(number) {
+        match items.find(number) {
             Some(value) => Ok(value),
             None => Err(self.refuse(DecodeError::DiscriminantValueNotFound)),
         }

@@ -11,7 +11,7 @@ use crate::items::{Item, Limits, Sizes, is_extensible};
 use asn1_schema_constraints::{Bounded, Constraints};
 use asn1_schema_encode::{Encoder, begin_record, go_on};
 use asn1_schema_errors::{CodecKind, EncodeError};
-use asn1_schema_tags::{Chosen, Enumerated, Identifier, Tag};
+use asn1_schema_tags::{Chosen, EnumerationItems, Identifier, Tag};
 use asn1_values_alphabets::StaticPermittedAlphabet;
 use asn1_values_bit_strings::BitString;
 use asn1_values_bits::BitStr;
@@ -136,19 +136,22 @@ impl Encoder for RecordEncoder {
         }
     }
 
-    fn encode_enumerated<T: Enumerated>(
+    fn encode_item_of<I: EnumerationItems>(
         &mut self,
         _tag: Tag,
-        value: &T,
+        items: &I,
+        item: &I::Item,
         _identifier: Identifier,
     ) -> Result<(), EncodeError>
-        ensures ok { OnOk result (Puts self.old (one_of T.roots T.extensible T.additions (T.number value.now))
+        ensures ok { OnOk result (Puts self.old
+            (one_of (I.roots items.now) (I.extensible items.now) (I.additions items.now) (I.number item.now))
             self.new) }
-        ensures only { IfErr result (Refused Puts (one_of T.roots T.extensible T.additions (T.number value.now))
+        ensures only { IfErr result (Refused Puts
+            (one_of (I.roots items.now) (I.extensible items.now) (I.additions items.now) (I.number item.now))
             self.old) }
         ensures call { EncoderCall (λ s. s.failed ≡ true) no_front self.old self.new result }
     {
-        self.put(Item::OneOf(is_extensible::<T>(), value.discriminant()))
+        self.put(Item::OneOf(is_extensible(items), I::number_of(item)))
     }
 
     fn encode_bit_string(

@@ -11,7 +11,7 @@ ghost use Rattle.asn1_schema_laws.specs.Records.{additions_begin, addition, addi
 ghost use Rattle.asn1_schema_records.specs.Kept.{bounds_in, sizes_in, record_of};
 
 use asn1_schema_constraints::Constraints;
-use asn1_schema_tags::{Chosen, Enumerated};
+use asn1_schema_tags::{Chosen, EnumerationItems};
 use asn1_values_bit_strings::BitString;
 use asn1_values_identifiers::ObjectIdentifier;
 use asn1_values_integers::Integer;
@@ -381,8 +381,8 @@ impl Item {
 }
 
 /// Whether an enumeration has an extension marker (X.680 20).
-pub fn is_extensible<T: Enumerated>() -> bool
-    ensures { result ≡ T.extensible }
+pub fn is_extensible<I: EnumerationItems>(items: &I) -> bool
+    ensures { result ≡ I.extensible items.now }
 {
-    T::extended_variants().is_some()
+    items.added_items().is_some()
 }

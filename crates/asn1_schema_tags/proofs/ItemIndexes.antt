@@ -1,10 +1,11 @@
 -- The indices of items.
 use Rattle.std.proofs.Common.{◌≡◌, ◌∙◌, refl, sym, ap, ℕ, zero, suc, ◌+◌, ◌<◌, ◌≤◌, ℤ, pos, negsuc, Bool, true, false}
 use Rattle.std.proofs.Common.{cond, not, ◌&&◌, List, [], ◌∷◌, ◌++◌, length, map, drop, get_or, slice_get, Option, Some}
-use Rattle.std.proofs.Common.{None, option_map, arith, eqb-true, eq-eqb, Bor, MatchOption, IfSome}
+use Rattle.std.proofs.Common.{None, option_map, arith, eqb-true, eq-eqb, Bor, MatchOption, IfSome, subst}
 use Rattle.std.specs.Option.{option_copied}
 use Rattle.std.specs.List.{HoldsAt}
 use Rattle.asn1_schema_tags.specs.Items.{IsPlaced}
+use Rattle.asn1_schema_tags.specs.declared.chosen.Chosen.{Chosen}
 use Rattle.std.proofs.lemmas.Option.{slice_get-map, slice_get_past, slice_get-get_or}
 use Rattle.std.proofs.lemmas.List.{drop_more}
 use Rattle.asn1_model.specs.Value.{same_number}
@@ -130,6 +131,29 @@ module _ {A : Type 0} (f : A → ℤ) (xs : List A) where
       are_distinct same_number (roots ++ others) ≡ true → o ≡ slice_get xs i → MatchOption o (e ≡ true → length others ≤ i) (λ x. IsPlaced roots e others (f x) true i)
   in_others roots e others i None h d k = λ t. past others i h.1 k
   in_others roots e others i (Some x) h d k = (not_before (f x) roots others i d (there others i x h.1 k), h.0, place_at (f x) others i (distinct_behind roots others d) (there others i x h.1 k))
+
+module _ {A : Type 0} (f : A → ℤ) (xs : List A) (roots : List ℤ) (e : Bool) (others : List ℤ) (c : Chosen) where
+  -- the item at the index in its table
+  if_some : (P : Type 0) (Q : A → Type 0) (o : Option A) → MatchOption o P Q → IfSome o Q
+  if_some P Q None m = tt
+  if_some P Q (Some x) m = m
+
+  pub root_at : (o : Option A) → c.added ≡ false → map f xs ≡ roots → are_distinct same_number (roots ++ others) ≡ true → o ≡ slice_get xs c.place → IfSome o (λ x. IsPlaced roots e others (f x) c.added c.place)
+  root_at o b h d k = subst (λ a. IfSome o (λ x. IsPlaced roots e others (f x) a c.place)) (sym b) (if_some _ _ o (in_roots f xs roots e others c.place o h d k))
+
+  pub added_at : (o : Option A) → c.added ≡ true → (e ≡ true) × (map f xs ≡ others) → are_distinct same_number (roots ++ others) ≡ true → o ≡ slice_get xs c.place → IfSome o (λ x. IsPlaced roots e others (f x) c.added c.place)
+  added_at o b h d k = subst (λ a. IfSome o (λ x. IsPlaced roots e others (f x) a c.place)) (sym b) (if_some _ _ o (in_others f xs roots e others c.place o h d k))
+
+-- an element of a list has a first index by its number
+module _ {A : Type 0} (f : A → ℤ) where
+  first_of : (v : ℤ) (b : Bool) (o : Option ℕ) → (j : ℕ) × (o ≡ Some j) → (k : ℕ) × (cond b (Some zero) (option_map suc o) ≡ Some k)
+  first_of v true o p = (zero, refl)
+  first_of v false o p = (suc p.0, ap (option_map suc) p.1)
+
+  pub listed_at : (v : ℤ) (xs : List A) (i : ℕ) (x : A) → i < length xs → x ≡ get_or xs i x → f x ≡ v → (k : ℕ) × (item_index v (map f xs) ≡ Some k)
+  listed_at v [] i x l e h = absurd (omega (arith, l))
+  listed_at v (y ∷ ys) zero x l e h = (zero, ap (λ b. cond b (Some zero) (option_map suc (item_index v (map f ys)))) (ap (same_number v) (ap f (sym e) ∙ h) ∙ same_number_self v))
+  listed_at v (y ∷ ys) (suc i) x l e h = first_of v (same_number v (f y)) (item_index v (map f ys)) (listed_at v ys i x (omega (arith, l)) e h)
 
 -- if all numbers are distinct, the item found by the number of an item is that item
 pub number_again : {A : Type 0} (f : A → ℤ) → ((x y : A) → f x ≡ f y → x ≡ y) → (v : ℤ) (o : Option A) → MatchOption o ⊥ (λ y. f y ≡ v) → (x : A) → f x ≡ v → o ≡ Some x

@@ -14,6 +14,8 @@ mod encoders;
 #[cfg(test)]
 mod fronts;
 #[cfg(test)]
+mod items;
+#[cfg(test)]
 mod messages;
 #[cfg(test)]
 mod needed;

@@ -23,7 +23,7 @@ use crate::scopes::Scopes;
 use asn1_schema_constraints::{Bounded, Constraints};
 use asn1_schema_decode::{Decoder as _, go_on};
 use asn1_schema_errors::{CodecKind, DecodeError};
-use asn1_schema_tags::{Chosen, Enumerated, Tag, TagTables};
+use asn1_schema_tags::{Chosen, EnumerationItems, Tag, TagTables};
 use asn1_values_alphabets::StaticPermittedAlphabet;
 use asn1_values_bit_strings::BitString;
 use asn1_values_identifiers::ObjectIdentifier;
@@ -374,15 +374,19 @@ impl<'input> asn1_schema_decode::Decoder for Decoder<'input> {
     }
 
     #[inline(always)]
-    fn decode_enumerated<T: Enumerated>(&mut self, _tag: Tag) -> Result<T, DecodeError>
-        ensures ok { IfOk result
-            (λ x. Finds self.old (one_of T.roots T.extensible T.additions (T.number x)) self.new) }
+    fn decode_item_of<I: EnumerationItems>(
+        &mut self,
+        _tag: Tag,
+        items: &I,
+    ) -> Result<I::Item, DecodeError>
+        ensures ok { IfOk result (λ x. Finds self.old
+            (one_of (I.roots items.now) (I.extensible items.now) (I.additions items.now) (I.number x)) self.new) }
         ensures level { OnOk result (self.new.levels ≡ self.old.levels) }
-        ensures only { IfErr result (NoRecord Finds TooFewHeld (asks_one_of T.roots T.extensible T.additions) self.old
-            self.new) }
+        ensures only { IfErr result (NoRecord Finds TooFewHeld
+            (asks_one_of (I.roots items.now) (I.extensible items.now) (I.additions items.now)) self.old self.new) }
         ensures call { DecoderCall HasFailed self.old self.new result }
     {
-        record!(self, read_enumerated(&mut self.cursor, self.rules))
+        record!(self, read_enumerated(&mut self.cursor, self.rules, items))
     }
 
     fn decode_bit_string(

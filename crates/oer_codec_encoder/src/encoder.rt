@@ -14,7 +14,7 @@ use crate::sequences::{begin_components, begin_members, encode_presence_bit};
 use asn1_schema_constraints::{Bounded, Constraints};
 use asn1_schema_encode::{begin_record, go_on};
 use asn1_schema_errors::{CodecKind, EncodeError};
-use asn1_schema_tags::{Chosen, Enumerated, Identifier, Tag};
+use asn1_schema_tags::{Chosen, EnumerationItems, Identifier, Tag};
 use asn1_values_alphabets::StaticPermittedAlphabet;
 use asn1_values_bits::BitStr;
 use asn1_values_identifiers::Oid;
@@ -186,19 +186,22 @@ impl<'buffer> asn1_schema_encode::Encoder for Encoder<'buffer> {
         record!(self, push_integer(self.output, constraints, value))
     }
 
-    fn encode_enumerated<T: Enumerated>(
+    fn encode_item_of<I: EnumerationItems>(
         &mut self,
         _tag: Tag,
-        value: &T,
+        items: &I,
+        item: &I::Item,
         _identifier: Identifier,
     ) -> Result<(), EncodeError>
-        ensures ok { OnOk result
-            (Puts self.old (one_of T.roots T.extensible T.additions (T.number value.now)) self.new) }
-        ensures only { IfErr result
-            (Refused Puts (one_of T.roots T.extensible T.additions (T.number value.now)) self.old) }
+        ensures ok { OnOk result (Puts self.old
+            (one_of (I.roots items.now) (I.extensible items.now) (I.additions items.now) (I.number item.now))
+            self.new) }
+        ensures only { IfErr result (Refused Puts
+            (one_of (I.roots items.now) (I.extensible items.now) (I.additions items.now) (I.number item.now))
+            self.old) }
         ensures call { EncoderCall (λ s. s.failed ≡ true) (λ s. s.front) self.old self.new result }
     {
-        record!(self, push_enumerated(self.output, value))
+        record!(self, push_enumerated(self.output, items, item))
     }
 
     fn encode_bit_string(

@@ -1,5 +1,5 @@
 -- Octets that begin with an ENUMERATED.
-use Rattle.std.proofs.Common.{◌≡◌, ℕ, ℤ, Bool, true, false, ◌&&◌, ◌||◌, inl, inr, List, Option, Some, None, refl, sym, subst}
+use Rattle.std.proofs.Common.{◌≡◌, ◌∙◌, ℕ, ℤ, Bool, true, false, ◌&&◌, ◌||◌, inl, inr, List, map, Option, Some, None, MatchOption, IfSome, refl, sym, subst}
 use Rattle.std.proofs.lemmas.Bool.{and_parts, or_cases}
 use Rattle.asn1_laws_fronts.proofs.OctetUnits.{items_alike}
 use Rattle.asn1_model.specs.Form.{Reads}
@@ -8,7 +8,7 @@ use Rattle.asn1_model.specs.Oer.{Freedom, form, item_form}
 use Rattle.asn1_model.specs.Schema.{enumerated}
 use Rattle.asn1_model.specs.Normal.{item_index}
 use Rattle.asn1_model.specs.Value.{Value, item}
-use Rattle.asn1_schema_tags.specs.Items.{IsPlaced, IsNone}
+use Rattle.asn1_schema_tags.specs.Items.{IsPlaced, IsItem, IsNone}
 use Rattle.oer_codec_laws.specs.Takes.{Front}
 use Rattle.oer_codec_laws.proofs.Next.{same_fronts}
 use Rattle.oer_codec_reading.specs.Fronts.{Stands, NoneStands}
@@ -50,6 +50,24 @@ not_placed roots e adds v h t = elim (or_cases (is_some (item_index v roots)) (e
     none_present : (o : Option ℕ) → o ≡ None → is_some o ≡ true → ⊥
     none_present None e p = cc p
     none_present (Some i) e p = cc e
+
+-- an item that was found in the root, or, as it is not there, among the additions
+pub item_in_root : {X : Type 0} (f : X → ℤ) (xs : List X) (roots : List ℤ) (e : Bool) (adds : List ℤ) (v : ℤ) → map f xs ≡ roots → (i : ℕ) × (item_index v (map f xs) ≡ Some i) → IsItem roots e adds v
+item_in_root f xs roots e adds v h p = (false, p.0, subst (λ ds. item_index v ds ≡ Some p.0) h p.1)
+
+pub item_added : {X : Type 0} (f : X → ℤ) (xs ys : List X) (roots : List ℤ) (e : Bool) (adds : List ℤ) (v w : ℤ) → v ≡ w → map f xs ≡ roots → item_index w (map f xs) ≡ None → (e ≡ true) × (map f ys ≡ adds) → (i : ℕ) × (item_index v (map f ys) ≡ Some i) → IsItem roots e adds v
+item_added f xs ys roots e adds v w q h n m p = (true, p.0, (subst (λ ds. item_index v ds ≡ None) h (subst (λ u. item_index u (map f xs) ≡ None) (sym q) n), m.0, subst (λ ds. item_index v ds ≡ Some p.0) m.1 p.1))
+
+pub no_item_in : {X : Type 0} (f : X → ℤ) (xs : List X) (roots : List ℤ) (e : Bool) (adds : List ℤ) (w : ℤ) → map f xs ≡ roots → item_index w (map f xs) ≡ None → e ≡ false → IsNone roots e adds w
+no_item_in f xs roots e adds w h n m = (subst (λ ds. item_index w ds ≡ None) h n, λ t. absurd (true_false (sym t ∙ m)))
+  where
+    true_false : true ≡ false → ⊥
+    true_false e = cc e
+
+pub if_added : {X : Type 0} (f : X → ℤ) (xs ys : List X) (roots : List ℤ) (e : Bool) (adds : List ℤ) (w : ℤ) (o : Option X) → map f xs ≡ roots → item_index w (map f xs) ≡ None → (e ≡ true) × (map f ys ≡ adds) →
+    MatchOption o (item_index w (map f ys) ≡ None) (λ x. f x ≡ w) → IfSome o (λ x. (i : ℕ) × (item_index (f x) (map f ys) ≡ Some i)) → IfSome o (λ x. IsItem roots e adds (f x))
+if_added f xs ys roots e adds w None h n m q p = tt
+if_added f xs ys roots e adds w (Some x) h n m q p = item_added f xs ys roots e adds (f x) w q h n m p
 
 module _ (free : Freedom → Bool) (roots : List ℤ) (e : Bool) (adds : List ℤ) where
   item_front : (x : Value) (os rest : List ℕ) → Stands free (form (enumerated roots e adds) x) os rest → (v : ℤ) × (is_item roots e adds v ≡ true) × Stands free (item_form v) os rest

@@ -4,7 +4,7 @@ use Rattle.asn1_model.specs.Numbers.{admits}
 use Rattle.asn1_model.specs.Form.{written, only_if, exactly}
 use Rattle.std.specs.Prelude.{is_some}
 use Rattle.asn1_model.specs.Normal.{item_index}
-use Rattle.asn1_schema_tags.specs.Items.{IsPlaced}
+use Rattle.asn1_schema_tags.specs.Items.{IsPlaced, IsNone}
 use Rattle.asn1_model.specs.Schema.{Size, Counts, boolean, enumerated, octet_string, object_identifier}
 use Rattle.asn1_model.specs.Value.{truth, item, octet_list, arcs}
 use Rattle.asn1_model.specs.Strings.{is_octet, is_identifier, identifier_octets}
@@ -91,3 +91,17 @@ is_item roots e others v true i h = placed_behind _ _ e h.1 (ap is_some h.2)
 pub item_text : (roots : List ℤ) (e : Bool) (others : List ℤ) (v : ℤ) (added : Bool) (i : ℕ) → IsPlaced roots e others v added i → written (Oer.form (enumerated roots e others) (item v)) 0 ≡ written (Oer.item_form v) 0
 unfolding Oer.form
 item_text roots e others v added i h = if_true (is_some (item_index v roots) || (e && is_some (item_index v others))) (Oer.item_form v) (is_item roots e others v added i h)
+
+-- no text where the number is that of no item
+not_placed : (a b e : Bool) → a ≡ false → (e ≡ true → b ≡ false) → (a || (e && b)) ≡ false
+not_placed true b e h k = cc
+not_placed false b false h k = refl
+not_placed false b true h k = k refl
+
+not_some : (o : Option ℕ) → o ≡ None → is_some o ≡ false
+not_some None h = refl
+not_some (Some i) h = cc
+
+pub item_none : (roots : List ℤ) (e : Bool) (others : List ℤ) (v : ℤ) → IsNone roots e others v → written (Oer.form (enumerated roots e others) (item v)) 0 ≡ None
+unfolding Oer.form
+item_none roots e others v h = if_false (is_some (item_index v roots) || (e && is_some (item_index v others))) (Oer.item_form v) (not_placed _ _ e (not_some (item_index v roots) h.0) (λ t. not_some (item_index v others) (h.1 t)))

@@ -1,4 +1,4 @@
-mod Encoding
+pub mod Encoding
 mod Leniently
-mod Messages
+pub mod Messages
 mod Once

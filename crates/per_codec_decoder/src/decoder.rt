@@ -28,7 +28,7 @@ use crate::{Additions, Enclosing, Ending, Frame, Scopes, read_members, read_prea
 use asn1_schema_constraints::{Bounded, Constraints, Sizes};
 use asn1_schema_decode::{Decoder as _, go_on};
 use asn1_schema_errors::{CodecKind, DecodeError};
-use asn1_schema_tags::{Chosen, Enumerated, Tag, TagTables};
+use asn1_schema_tags::{Chosen, EnumerationItems, Tag, TagTables};
 use asn1_values_alphabets::StaticPermittedAlphabet;
 use asn1_values_bit_strings::BitString;
 use asn1_values_bits::BitStr;
@@ -490,11 +490,15 @@ impl<'input> asn1_schema_decode::Decoder for Decoder<'input> {
         )
     }
 
-    fn decode_enumerated<T: Enumerated>(&mut self, _tag: Tag) -> Result<T, DecodeError> {
+    fn decode_item_of<I: EnumerationItems>(
+        &mut self,
+        _tag: Tag,
+        items: &I,
+    ) -> Result<I::Item, DecodeError> {
         record!(
             self,
             cursor,
-            read_item(self.scopes.allocator(), &mut cursor, self.rules)
+            read_item(self.scopes.allocator(), &mut cursor, self.rules, items)
         )
     }
 

@@ -20,7 +20,7 @@ use crate::sequences::begin_components;
 use asn1_schema_constraints::{Bounded, Constraints};
 use asn1_schema_encode::{begin_record, go_on};
 use asn1_schema_errors::{CodecKind, EncodeError};
-use asn1_schema_tags::{Chosen, Enumerated, Identifier, Tag};
+use asn1_schema_tags::{Chosen, EnumerationItems, Identifier, Tag};
 use asn1_values_alphabets::StaticPermittedAlphabet;
 use asn1_values_bits::{BitBuffer, BitStr};
 use asn1_values_identifiers::Oid;
@@ -203,19 +203,25 @@ impl asn1_schema_encode::Encoder for Encoder {
         )
     }
 
-    fn encode_enumerated<T: Enumerated>(
+    fn encode_item_of<I: EnumerationItems>(
         &mut self,
         _tag: Tag,
-        value: &T,
+        items: &I,
+        item: &I::Item,
         _identifier: Identifier,
     ) -> Result<(), EncodeError>
         ensures ok { OnOk result (Puts self.old
-            (one_of T.roots T.extensible T.additions (T.number value.now)) self.new) }
+            (one_of (I.roots items.now) (I.extensible items.now) (I.additions items.now) (I.number item.now))
+            self.new) }
         ensures only { IfErr result (Refused Puts
-            (one_of T.roots T.extensible T.additions (T.number value.now)) self.old) }
+            (one_of (I.roots items.now) (I.extensible items.now) (I.additions items.now) (I.number item.now))
+            self.old) }
         ensures call { EncoderCall (λ s. s.failed ≡ true) no_front self.old self.new result }
     {
-        record!(self, push_enumerated(&mut self.output, self.variant, value))
+        record!(
+            self,
+            push_enumerated(&mut self.output, self.variant, items, item)
+        )
     }
 
     #[inline(always)]

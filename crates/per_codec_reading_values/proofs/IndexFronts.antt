@@ -1,20 +1,21 @@
 -- Bits that begin with an enumeration or choice index.
-use Rattle.std.proofs.Common.{◌≡◌, ℕ, zero, suc, ◌-◌, ◌<◌, ◌≤◌, ltb, cond, ℤ, Bool, true, false, List, [], ◌∷◌, length, Option, Some, None, refl, ap, sym, ◌∙◌, subst, arith}
+use Rattle.std.proofs.Common.{◌≡◌, ℕ, zero, suc, ◌-◌, ◌<◌, ◌≤◌, ltb, cond, ℤ, Bool, true, false, List, [], ◌∷◌, length, map, Option, Some, None, refl, ap, sym, ◌∙◌, subst, arith}
 use Rattle.std.specs.Prelude.{option_map, is_some, MatchOption}
+use Rattle.std.proofs.lemmas.List.{length-map}
 use Rattle.std.proofs.lemmas.Bool.{ltb-true, lt-ltb, false≢true}
 use Rattle.asn1_model.specs.Schema.{enumerated}
 use Rattle.asn1_model.specs.Value.{item, same_number}
 use Rattle.asn1_model.specs.Normal.{item_index}
 use Rattle.asn1_model.specs.Form.{exactly, both}
 use Rattle.asn1_model.specs.Per
-use Rattle.asn1_schema_tags.specs.Items.{IsPlaced}
+use Rattle.asn1_schema_tags.specs.Items.{IsPlaced, NoItem}
 use Rattle.asn1_schema_tags.specs.declared.chosen.Chosen.{Chosen}
 use Rattle.per_codec_laws.specs.Takes.{Position, Front}
 use Rattle.per_codec_laws.proofs.Fronts.{split, join, if_in, if_out, of_refused}
 use Rattle.per_codec_reading.specs.Fronts.{NoneStands}
 use Rattle.per_codec_laws.specs.Sizes.{extension_bit}
 use Rattle.per_codec_laws.proofs.Next.{same_extension_bit}
-use Rattle.per_codec_reading_values.specs.Places.{root_form, added_form, index_form, NoItem}
+use Rattle.per_codec_reading_values.specs.Places.{root_form, added_form, index_form}
 
 -- ---- tables of enumeration items
 moved_place : (v d : ℤ) (ds : List ℤ) (i : ℕ) (t : Bool) (o : Option ℕ) → cond t (Some zero) (option_map suc o) ≡ Some i → ((j : ℕ) → o ≡ Some j → j < length ds) → i < suc (length ds)
@@ -25,6 +26,16 @@ moved_place v d ds i false (Some j) e h = let z : suc j ≡ i = cc in let l = h 
 placed_below : (v : ℤ) (ds : List ℤ) (i : ℕ) → item_index v ds ≡ Some i → i < length ds
 placed_below v [] i e = cc
 placed_below v (d ∷ ds) i e = moved_place v d ds i (same_number v d) (item_index v ds) e (λ j f. placed_below v ds j f)
+
+-- how many items there are
+pub root_count : {A : Type 0} (f : A → ℤ) (xs : List A) (n : ℕ) (roots : List ℤ) → n ≡ length xs → map f xs ≡ roots → n ≡ length roots
+root_count f xs n roots h e = h ∙ sym (length-map xs f) ∙ ap length e
+
+pub added_count : {A : Type 0} (f : A → ℤ) (xs : List A) (n : ℕ) (e : Bool) (adds : List ℤ) → n ≡ length xs → (e ≡ true) × (map f xs ≡ adds) → n ≡ cond e (length adds) 0
+added_count f xs n e adds h k = root_count f xs n adds h k.1 ∙ sym (ap (λ b. cond b (length adds) 0) k.0)
+
+pub none_added : (e : Bool) (adds : List ℤ) → e ≡ false → 0 ≡ cond e (length adds) 0
+none_added e adds h = sym (ap (λ b. cond b (length adds) 0) h)
 
 -- whether there is a second table
 pub extensible_is : {X : Type 0} (P : X → Type 0) (o : Option X) (e : Bool) → MatchOption o (e ≡ false) (λ x. (e ≡ true) × P x) → is_some o ≡ e

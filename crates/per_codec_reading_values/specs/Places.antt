@@ -1,5 +1,5 @@
 -- Normally small numbers, and enumeration and choice indices.
-use Rattle.std.specs.Prelude.{◌≡◌, ◌≤◌, ℕ, ℤ, ◌-◌, ltb, Bool, true, cond, List, length}
+use Rattle.std.specs.Prelude.{ℕ, ◌-◌, ltb, Bool, cond}
 use Rattle.asn1_model.specs.Form.{both, only_if}
 use Rattle.asn1_model.specs.Per.{BitForm, constrained, normally_small}
 use Rattle.asn1_schema_tags.specs.declared.chosen.Chosen.{Chosen}
@@ -22,7 +22,3 @@ added_form al count i = only_if (ltb i count) (normally_small al i)
 abbrev pub index_form : Bool → ℕ → Bool → ℕ → Chosen → BitForm
 index_form al roots e others c = both (extension_bit e c.added)
     (cond c.added (added_form al others c.place) (root_form al roots c.place))
-
--- There is no item with the index: it is past the end of its table.
-abbrev pub NoItem : List ℤ → Bool → List ℤ → Chosen → Type 0
-NoItem roots e others c = cond c.added (e ≡ true → length others ≤ c.place) (length roots ≤ c.place)

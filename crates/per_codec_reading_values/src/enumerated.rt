@@ -1,30 +1,26 @@
 //! ENUMERATED (X.691 14).
-ghost use Rattle.std.specs.Prelude.{◌≡◌, ◌≤◌, true, length, IfOk, IfErr, IfSome, IfNone};
+ghost use Rattle.std.specs.Prelude.{◌≡◌, length, cond, IfOk, IfErr};
 ghost use Rattle.asn1_model.specs.Per as Per;
 ghost use Rattle.asn1_model.specs.Schema as Asn1;
 ghost use Rattle.asn1_model.specs.Value as Asn1Value;
-ghost use Rattle.asn1_schema_tags.specs.Items.{IsPlaced};
-ghost use Rattle.per_codec_reading_values.specs.Places.{NoItem};
 ghost use Rattle.per_codec_laws.specs.Takes.{Front};
 ghost use Rattle.per_codec_reading.specs.Fronts as fronts;
 ghost use Rattle.per_codec_reading.specs.Fronts.{freedoms, Misses};
 
 use crate::indexes::read_item_index;
 use asn1_schema_errors::DecodeError;
-use asn1_schema_tags::{Chosen, Enumerated};
+use asn1_schema_tags::EnumerationItems;
 use per_codec_reading::{Cursor, PackedRules};
 use std::alloc::Global;
 
-/// The item with an enumeration index, if there is one.
-fn item_at<T: Enumerated>(chosen: Chosen) -> Option<T>
-    ensures some { IfSome result (λ x. IsPlaced T.roots T.extensible T.additions
-        (T.number x) chosen.added chosen.place) }
-    ensures none { IfNone result (NoItem T.roots T.extensible T.additions chosen) }
+/// The number of added items.
+fn added_count<I: EnumerationItems>(items: &I) -> usize
+    ensures { result ≡ cond (I.extensible items.now) (length (I.additions items.now)) 0 }
 {
-    if chosen.added {
-        return T::from_extended_enumeration_index(chosen.place);
+    match items.added_items() {
+        Some(added) => added.len(),
+        None => 0,
     }
-    T::from_enumeration_index(chosen.place)
 }
 
 /// Reads an ENUMERATED (X.691 14): the enumeration index in the root, or that of an addition, after the extension
@@ -34,22 +30,25 @@ fn item_at<T: Enumerated>(chosen: Chosen) -> Option<T>
 ///
 /// `DiscriminantValueNotFound` if no item has the index, and the errors of a constrained whole number and of a
 /// normally small number.
-pub fn read_item<T: Enumerated>(
+pub fn read_item<I: EnumerationItems>(
     alloc: Global,
     cursor: &mut Cursor<'_>,
     rules: PackedRules,
-) -> Result<T, DecodeError>
+    items: &I,
+) -> Result<I::Item, DecodeError>
     ensures ok { IfOk result (λ x. Front (freedoms rules)
-        (Per.form (fronts.is_aligned rules) (Asn1.enumerated T.roots T.extensible T.additions)
-        (Asn1Value.item (T.number x))) cursor.old cursor.new) }
+        (Per.form (fronts.is_aligned rules)
+        (Asn1.enumerated (I.roots items.now) (I.extensible items.now) (I.additions items.now))
+        (Asn1Value.item (I.number x))) cursor.old cursor.new) }
     ensures only { IfErr result (Misses (freedoms rules)
-        (Per.form (fronts.is_aligned rules) (Asn1.enumerated T.roots T.extensible T.additions)) cursor.old) }
+        (Per.form (fronts.is_aligned rules)
+        (Asn1.enumerated (I.roots items.now) (I.extensible items.now) (I.additions items.now))) cursor.old) }
 {
-    let extensible = T::extended_variants().is_some();
-    let roots = T::variance();
-    let others = T::extended_variance();
+    let extensible = items.added_items().is_some();
+    let roots = items.root_items().len();
+    let others = added_count(items);
     let chosen = read_item_index(alloc, cursor, rules, roots, extensible, others)?;
-    match item_at(chosen) {
+    match items.item_at(chosen) {
         Some(item) => Ok(item),
         None => Err(DecodeError::DiscriminantValueNotFound),
     }

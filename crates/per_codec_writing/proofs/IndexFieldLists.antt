@@ -1,14 +1,14 @@
 -- The field-lists of enumeration and choice indices.
-use Rattle.std.proofs.Common.{◌≡◌, ℕ, ◌-◌, ℤ, Bool, true, false, not, List, [], ◌∷◌, length, Option, Some, None, refl, ap, sym, ◌∙◌}
+use Rattle.std.proofs.Common.{◌≡◌, ℕ, ◌-◌, ℤ, Bool, true, false, not, List, [], ◌∷◌, length, map, Option, Some, None, refl, ap, sym, ◌∙◌}
 use Rattle.std.specs.Prelude.{Result, MatchOption, is_some}
-use Rattle.std.proofs.lemmas.List.{append-nil}
+use Rattle.std.proofs.lemmas.List.{append-nil, length-map}
 use Rattle.asn1_model.specs.Form.{exactly}
 use Rattle.asn1_model.specs.Schema.{enumerated}
 use Rattle.asn1_model.specs.Normal.{item_index}
 use Rattle.asn1_model.specs.Value.{item}
 use Rattle.asn1_model.specs.Per
 use Rattle.asn1_schema_errors.specs.declared.EncodeError.{EncodeError}
-use Rattle.asn1_schema_tags.specs.Items.{IsPlaced}
+use Rattle.asn1_schema_tags.specs.Items.{IsPlaced, IsNone}
 use Rattle.per_codec_packing.specs.FieldLists.{as_field_list, field_list_at}
 use Rattle.per_codec_writing.specs.Writing.{Packed, Adds, place, plus}
 use Rattle.per_codec_writing.proofs.PaddingFieldLists.{adds_field_list, adds_both}
@@ -68,6 +68,22 @@ pub did_item : {T : Type 0} (r : Result T EncodeError) (al e ext added : Bool) (
 did_item r al e ext added n roots others v i old new a b h d =
     did_same r _ (field_list_at (index_form al n ext added i) (place old)) old new
     (item_field_list al e added roots others v i (place old) h ∙ ap (λ m. field_list_at (index_form al m e added i) (place old)) (sym a) ∙ ap (λ x. field_list_at (index_form al n x added i) (place old)) (sym b)) d
+
+-- no field-list where the number is that of no item
+refused_item : (al e : Bool) (n : ℕ) (o u : Option ℕ) (p : Option ℕ) → o ≡ None → (e ≡ true → u ≡ None) → field_list_at (Per.item_form al n e o u) p ≡ None
+unfolding field_list_at Per.item_form
+refused_item al e n (Some i) u p h k = cc
+refused_item al false n None u p h k = refl
+refused_item al true n None None p h k = refl
+refused_item al true n None (Some j) p h k = let z = k refl in cc
+
+pub none_item : (al e : Bool) (roots others : List ℤ) (v : ℤ) (p : Option ℕ) → IsNone roots e others v → field_list_at (Per.form al (enumerated roots e others) (item v)) p ≡ None
+unfolding Per.form
+none_item al e roots others v p h = refused_item al e (length roots) (item_index v roots) (item_index v others) p h.0 h.1
+
+-- as many items as numbers
+pub number_count : {A : Type 0} (f : A → ℤ) (xs : List A) (n : ℕ) (roots : List ℤ) → n ≡ length xs → map f xs ≡ roots → n ≡ length roots
+number_count f xs n roots h e = h ∙ sym (length-map xs f) ∙ ap length e
 
 -- there is a table exactly if there is an extension bit
 pub is_extensible : {X : Type 0} (o : Option X) (e : Bool) (P : X → Type 0) → MatchOption o (e ≡ false) (λ x. (e ≡ true) × P x) → is_some o ≡ e

@@ -2,7 +2,7 @@
 ghost use Rattle.std.specs.Prelude.{◌≡◌, MatchResult};
 ghost use Rattle.asn1_model.specs.Per.{form, extension_bit_of};
 ghost use Rattle.asn1_model.specs.Schema.{enumerated};
-ghost use Rattle.asn1_model.specs.Value.{item};
+ghost use Rattle.asn1_model.specs.Value.{item as item_value};
 ghost use Rattle.per_codec_packing.specs.FieldLists.{field_list_at};
 ghost use Rattle.per_codec_writing.specs.Writing.{Adds, Refuses, place};
 ghost use Rattle.per_codec_writing.specs.Places.{index_form};
@@ -10,7 +10,7 @@ ghost use Rattle.per_codec_rules.specs.Variants.{is_aligned};
 
 use crate::{push_constrained, push_normally_small};
 use asn1_schema_errors::EncodeError;
-use asn1_schema_tags::{Chosen, Enumerated};
+use asn1_schema_tags::{Chosen, EnumerationItems};
 use per_codec_packing::Packing;
 use per_codec_rules::Variant;
 
@@ -71,25 +71,25 @@ pub fn push_index(
 ///
 /// # Errors
 ///
-/// `OutOfMemory`; any other only if the value has no encoding.
-pub fn push_enumerated<T: Enumerated>(
+/// `OutOfMemory`; any other only if the value has no encoding, as if there is no such item.
+pub fn push_enumerated<I: EnumerationItems>(
     output: &mut Packing,
     variant: Variant,
-    value: &T,
+    items: &I,
+    item: &I::Item,
 ) -> Result<(), EncodeError>
     ensures { MatchResult result (λ _. Adds
-        (field_list_at (form (is_aligned variant) (enumerated T.roots T.extensible T.additions)
-        (item (T.number value.now)))
-        (place output.old)) output.old output.new)
-        (Refuses (field_list_at (form (is_aligned variant) (enumerated T.roots T.extensible T.additions)
-        (item (T.number value.now))) (place output.old))) }
+        (field_list_at (form (is_aligned variant)
+        (enumerated (I.roots items.now) (I.extensible items.now) (I.additions items.now))
+        (item_value (I.number item.now))) (place output.old)) output.old output.new)
+        (Refuses (field_list_at (form (is_aligned variant)
+        (enumerated (I.roots items.now) (I.extensible items.now) (I.additions items.now))
+        (item_value (I.number item.now))) (place output.old))) }
 {
-    let extensible = T::extended_variants().is_some();
-    push_index(
-        output,
-        variant,
-        T::variance(),
-        extensible,
-        value.item_index(),
-    )
+    let roots = items.root_items().len();
+    let extensible = items.added_items().is_some();
+    match items.place(item) {
+        Some(chosen) => push_index(output, variant, roots, extensible, chosen),
+        None => Err(EncodeError::ValueConstraintNotSatisfied),
+    }
 }

@@ -1,0 +1,79 @@
+//! The octet encoding rules (X.696): values of the types of a table are read and written.
+#![tactic(auto, using(std::proofs::lemmas::Grind::common_steps))]
+
+ghost use Rattle.std.specs.Prelude.{◌≡◌, IfOk, IfErr};
+ghost use Rattle.asn1_schema_decode.specs.Messages.{NoMessage};
+ghost use Rattle.asn1_schema_encode.specs.Written.{IsOfValue};
+ghost use Rattle.asn1_table_walker.specs.Fronts.{TellsOnto};
+ghost use Rattle.asn1_table_walker.specs.Texts.{EncodedIn, NotEncodedIn};
+ghost use Rattle.asn1_table_types.specs.Meaning.{type_at};
+ghost use Rattle.asn1_table_walker.specs.Frames.{records_of};
+ghost use Rattle.oer_codec.specs.Messages.{rules_of};
+ghost use Rattle.oer_codec_encoder.specs.Written.{octet_rules};
+
+use asn1_schema_errors::{DecodeError, EncodeError, refusal, within_limit};
+use asn1_table_walker::{Event, ServedTypes, read_onto, replay};
+use oer_codec::oer::{Decoder, DecoderOptions, Encoder, EncoderOptions, EncodingRules};
+use std::alloc::Global;
+
+/// For how many octets there is room before the first one is written.
+const FIRST_CAPACITY: usize = 128;
+
+/// Reads the value of the type at a place of a table whose encoding stands in front (X.696): the records of its normal
+/// form, and the octets behind it.
+///
+/// # Errors
+///
+/// `OutOfMemory` if memory runs out. Any other only if no octets in front, fewer than 2^60, are an encoding of a value
+/// of the type that nests at most 128 levels.
+pub fn decode_oer<'input>(
+    alloc: Global,
+    types: &ServedTypes,
+    place: usize,
+    input: &'input [u8],
+    rules: EncodingRules,
+) -> Result<(Vec<Event>, &'input [u8]), DecodeError>
+    ensures ok { IfOk result (λ x. TellsOnto (rules_of rules) (type_at types.now.types.nodes.items 128 place)
+        (records_of types.now.types.nodes.items x.0.items) input.now x.1.now) }
+    ensures only { IfErr result
+        (NoMessage (rules_of rules) (λ _. type_at types.now.types.nodes.items 128 place) input.now) }
+    ensures fresh { IfErr result (λ e. e ≡ DecodeError.AlreadyFailed → ⊥) }
+{
+    let mut decoder = Decoder::new(alloc, input, DecoderOptions { rules });
+    let looked_at = decoder.remaining().len();
+    let mut tape = Vec::new(alloc);
+    match read_onto(alloc, &mut decoder, types, place, &mut tape) {
+        Ok(()) => {
+            let taken = looked_at - decoder.remaining().len();
+            let (_, rest) = input.split_at(taken);
+            Ok((tape, rest))
+        }
+        Err(error) => Err(error),
+    }
+}
+
+/// The canonical encoding (X.696) of the value with these records.
+///
+/// # Errors
+///
+/// `TooLongValue` for an encoding of 2^60 octets or more and for nothing else, `OutOfMemory`, and others where the value
+/// has no encoding of any length.
+pub fn encode_oer(
+    alloc: Global,
+    types: &ServedTypes,
+    tape: &[Event],
+) -> Result<Vec<u8>, EncodeError>
+    ensures ok { IfOk result
+        (λ octets. EncodedIn octet_rules (records_of types.now.types.nodes.items tape.now) octets.items) }
+    ensures only { IfErr result (NotEncodedIn octet_rules (records_of types.now.types.nodes.items tape.now)) }
+    ensures kinds { IfErr result IsOfValue }
+{
+    let mut output = Vec::with_capacity(alloc, FIRST_CAPACITY)?;
+    let mut worker = Vec::new(alloc);
+    let options = EncoderOptions::coer();
+    let mut encoder = Encoder::from_buffer(alloc, options, &mut output, &mut worker);
+    match replay(&mut encoder, types, tape) {
+        Ok(()) => within_limit(encoder.into_output()),
+        Err(error) => Err(refusal(error)),
+    }
+}

@@ -1,0 +1,110 @@
+//! A value begins.
+#![tactic(auto, using(std::proofs::lemmas::Grind::common_steps))]
+
+ghost use Rattle.std.specs.Prelude.{◌≡◌, ◌+◌, ◌≤◌, IfOk, IfErr, OnOk, vec_len};
+ghost use Rattle.asn1_schema_errors.specs.Calls.{DecoderCall};
+ghost use Rattle.asn1_table_laws.specs.Walks.{NoValue, Opens};
+ghost use Rattle.asn1_table_types.specs.Meaning.{type_at};
+ghost use Rattle.asn1_table_walker.specs.Frames.{records_of, pending_in, levels_in};
+
+use crate::frames::Frame;
+use crate::members::{begin_bag, begin_list};
+use crate::scalars::{
+    read_arcs, read_bits, read_flag, read_item, read_nil, read_number, read_octets,
+};
+use crate::sequences::{begin_sequence, begin_set};
+use crate::served::ServedTypes;
+use crate::strings::read_text;
+use crate::tape::Event;
+use asn1_schema_decode::Decoder;
+use asn1_schema_errors::DecodeError;
+use asn1_schema_tags::Tag;
+use asn1_table_types::TypeNode;
+use std::alloc::Global;
+
+/// Reads a value of the type at a place, if it is one record, or begins it.
+pub fn open<D: Decoder>(
+    alloc: Global,
+    decoder: &mut D,
+    types: &ServedTypes,
+    place: usize,
+    tape: &mut Vec<Event>,
+) -> Result<Option<Frame>, DecodeError>
+    ensures ok { IfOk result (λ o. Opens D.step D.too_few D.too_few_members
+        (type_at types.now.types.nodes.items (D.levels decoder.old) place)
+        (pending_in types.now.types.nodes.items (D.levels decoder.new) o) decoder.old decoder.new
+        (records_of types.now.types.nodes.items tape.old.items)
+        (records_of types.now.types.nodes.items tape.new.items)) }
+    ensures level { IfOk result (λ o. D.levels decoder.old ≡ D.levels decoder.new + levels_in o) }
+    ensures only { IfErr result (NoValue D.step D.too_few
+        (type_at types.now.types.nodes.items (D.levels decoder.old) place) decoder.old decoder.new) }
+    ensures going { OnOk result (D.has_failed decoder.new → ⊥) }
+    ensures call { DecoderCall D.has_failed decoder.old decoder.new result }
+    ensures grows { OnOk result (vec_len tape.old + 1 ≤ vec_len tape.new) }
+{
+    match types.node(place) {
+        None => Err(refuse_any(decoder)),
+        Some(TypeNode::Boolean) => {
+            read_flag(decoder, tape)?;
+            Ok(None)
+        }
+        Some(TypeNode::Integer(limits)) => {
+            read_number(alloc, decoder, limits, place, tape)?;
+            Ok(None)
+        }
+        Some(TypeNode::Null) => {
+            read_nil(decoder, tape)?;
+            Ok(None)
+        }
+        Some(TypeNode::Enumerated(table)) => {
+            read_item(decoder, types, table, place, tape)?;
+            Ok(None)
+        }
+        Some(TypeNode::BitString(sizes)) => {
+            read_bits(alloc, decoder, *sizes, place, tape)?;
+            Ok(None)
+        }
+        Some(TypeNode::OctetString(sizes)) => {
+            read_octets(alloc, decoder, *sizes, place, tape)?;
+            Ok(None)
+        }
+        Some(TypeNode::ObjectIdentifier) => {
+            read_arcs(alloc, decoder, tape)?;
+            Ok(None)
+        }
+        Some(TypeNode::SequenceOf(sizes, _members)) => {
+            let frame = begin_list(decoder, *sizes, place, tape)?;
+            Ok(Some(frame))
+        }
+        Some(TypeNode::Sequence(table)) => {
+            let frame = begin_sequence(decoder, table, place, tape)?;
+            Ok(Some(frame))
+        }
+        Some(TypeNode::CharacterString(table)) => {
+            read_text(alloc, decoder, table, place, tape)?;
+            Ok(None)
+        }
+        Some(TypeNode::SetOf(sizes, _members)) => {
+            let frame = begin_bag(decoder, *sizes, place, tape)?;
+            Ok(Some(frame))
+        }
+        Some(TypeNode::Set(table)) => {
+            let frame = begin_set(decoder, table, place, tape)?;
+            Ok(Some(frame))
+        }
+        Some(TypeNode::Group(_)) => Err(refuse_any(decoder)),
+        Some(TypeNode::Choice(_)) => Err(refuse_any(decoder)),
+    }
+}
+
+// The decoder fails, as no value has a type outside of the table.
+fn refuse_any<D: Decoder>(decoder: &mut D) -> DecodeError
+    ensures failed { D.has_failed decoder.new }
+    ensures already { D.has_failed decoder.old → result ≡ DecodeError.AlreadyFailed }
+    ensures after { result ≡ DecodeError.AlreadyFailed → D.has_failed decoder.old }
+{
+    match decoder.decode_null(Tag::NULL) {
+        Ok(()) => decoder.refuse(DecodeError::TypeNotExtensible),
+        Err(error) => error,
+    }
+}
