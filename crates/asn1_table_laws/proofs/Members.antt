@@ -1,13 +1,13 @@
 -- The members of a list, one after another.
 use Rattle.std.proofs.Common.{◌≡◌, ◌∙◌, refl, sym, ap, subst, ℕ, suc, ◌+◌, ◌<◌, Bool, true, false, List, [], ◌∷◌, ◌++◌, length, arith}
 use Rattle.std.specs.Prelude.{slice_set as set}
-use Rattle.asn1_model.specs.Value.{Value, Values, no_more, member, members, map_members}
-use Rattle.asn1_model.specs.Schema.{Size, Counts, Schema, sequence_of}
+use Rattle.asn1_model.specs.Value.{Value, Values, no_more, member, members, bag, map_members}
+use Rattle.asn1_model.specs.Schema.{Size, Counts, Schema, sequence_of, set_of}
 use Rattle.asn1_model.specs.Numbers.{is_count_within}
 use Rattle.asn1_model.specs.Normal.{normal}
 use Rattle.asn1_model.specs.Lawful.{is_lawful, member_count}
 use Rattle.asn1_schema_errors.specs.declared.DecodeError.{DecodeError}
-use Rattle.asn1_schema_laws.specs.Records.{Record, list_begins, further, ends, asks_list, asks_further, asks_end}
+use Rattle.asn1_schema_laws.specs.Records.{Record, list_begins, bag_begins, further, ends, asks_list, asks_bag, asks_further, asks_end}
 use Rattle.asn1_schema_laws.specs.Presents.{presents, member_records, Fits, AllFit}
 use Rattle.asn1_schema_laws.specs.Chains.{Chain, OneRecord}
 use Rattle.asn1_schema_laws.proofs.Chains.{chain_append, chain_split}
@@ -29,9 +29,9 @@ first_further step s (member w ws) a c p = (true, p.0, p.1)
 
 module _ {S : Type 0} {step : S → Record → S → Type 0} where
   -- a member, and those behind it
-  member_told : {z : Size} {h : Counts} {s : Schema} {i k : ℕ} {a b c d : S} {K K1 K2 K3 : List Record} → step a (further true) b → K1 ≡ K ++ further true ∷ [] → Told step s b c K1 K2 →
-      EndsMembers step z h s i (k + 1) c d K2 K3 → EndsMembers step z h s i k a d K K3
-  member_told {z} {h} {s} {i} {k} {a} {b} {c} {d} {K} {K1} {K2} {K3} m e t r =
+  member_told : {f : ℕ → Record} {h : Counts} {s : Schema} {i k : ℕ} {a b c d : S} {K K1 K2 K3 : List Record} → step a (further true) b → K1 ≡ K ++ further true ∷ [] → Told step s b c K1 K2 →
+      EndsMembers step f h s i (k + 1) c d K2 K3 → EndsMembers step f h s i k a d K K3
+  member_told {f} {h} {s} {i} {k} {a} {b} {c} {d} {K} {K1} {K2} {K3} m e t r =
       let q : (k + 1) + member_count r.raw ≡ k + suc (member_count r.raw) = omega arith in
       let us = map_members (λ v. normal s v) r.raw in
       let g : K2 ++ member_records (λ v. presents s v) us ≡ K ++ further true ∷ (presents s (normal s t.raw) ++ member_records (λ v. presents s v) us) =
@@ -41,21 +41,21 @@ module _ {S : Type 0} {step : S → Record → S → Type 0} where
         fits = (t.fits, r.fits);
         within = subst (λ (n : ℕ). is_count_within h n ≡ true) q r.within;
         chain = (b, m, chain_append step (presents s t.raw) (member_records (λ v. presents s v) r.raw) b c d t.chain r.chain);
-        kept = r.kept ∙ ap (λ l. set l i (list_begins z h ((k + 1) + member_count r.raw))) g
-            ∙ ap (λ n. set (K ++ further true ∷ (presents s (normal s t.raw) ++ member_records (λ v. presents s v) us)) i (list_begins z h n)) q;
+        kept = r.kept ∙ ap (λ l. set l i (f ((k + 1) + member_count r.raw))) g ∙ ap (λ n. set (K ++ further true ∷ (presents s (normal s t.raw) ++ member_records (λ v. presents s v) us)) i
+            (f n)) q;
       }
 
   -- no more members, and the end
-  pub last_told : {z : Size} {h : Counts} {s : Schema} {i k : ℕ} {a : S} (b : S) {c : S} {K K1 K2 K3 : List Record} → step a (further false) b → K1 ≡ K ++ further false ∷ [] → step b ends c →
-      K2 ≡ K1 ++ ends ∷ [] → K3 ≡ set K2 i (list_begins z h k) → is_count_within h k ≡ true → EndsMembers step z h s i k a c K K3
-  last_told {z} {h} {s} {i} {k} {a} b {c} {K} {K1} {K2} {K3} m e n f g w =
+  pub last_told : {f : ℕ → Record} {h : Counts} {s : Schema} {i k : ℕ} {a : S} (b : S) {c : S} {K K1 K2 K3 : List Record} → step a (further false) b → K1 ≡ K ++ further false ∷ [] →
+      step b ends c → K2 ≡ K1 ++ ends ∷ [] → K3 ≡ set K2 i (f k) → is_count_within h k ≡ true → EndsMembers step f h s i k a c K K3
+  last_told {f} {h} {s} {i} {k} {a} b {c} {K} {K1} {K2} {K3} m e n q2 g w =
       let q : k ≡ k + 0 = omega arith in
       record {
         raw = no_more;
         fits = tt;
         within = subst (λ (n : ℕ). is_count_within h n ≡ true) q w;
         chain = (b, m, (c, n, refl));
-        kept = g ∙ ap (λ l. set l i (list_begins z h k)) (behind K (further false ∷ []) (ends ∷ []) e f) ∙ ap (λ n. set (K ++ further false ∷ ends ∷ []) i (list_begins z h n)) q;
+        kept = g ∙ ap (λ l. set l i (f k)) (behind K (further false ∷ []) (ends ∷ []) e q2) ∙ ap (λ n. set (K ++ further false ∷ ends ∷ []) i (f n)) q;
       }
 
   module _ (one : OneRecord step) {few within : S → S → S → Type 0} (carries : CarriesMembers step few within) where
@@ -134,8 +134,8 @@ module _ {S : Type 0} {step : S → Record → S → Type 0} where
     }
 
     -- one turn at the members: a further one comes
-    pub member_awaited : {z : Size} {h : Counts} {s : Schema} {i k : ℕ} {a b : S} {K K1 : List Record} → is_lawful s ≡ true → step a (further true) b → K1 ≡ K ++ further true ∷ [] →
-        Awaits step few within (listed z h s i k) (listed z h s i (k + 1)) s a b K K1
+    pub member_awaited : {f : ℕ → Record} {h : Counts} {s : Schema} {i k : ℕ} {a b : S} {K K1 : List Record} → is_lawful s ≡ true → step a (further true) b → K1 ≡ K ++ further true ∷ [] →
+        Awaits step few within (listed f h s i k) (listed f h s i (k + 1)) s a b K K1
     member_awaited lawful m e = record {
       passes = λ c more t. record { done = λ d end r. member_told m e t r; stuck = λ failed x u. member_passed m t u };
       stuck = λ failed x u. member_stuck lawful m u;
@@ -144,7 +144,7 @@ module _ {S : Type 0} {step : S → Record → S → Type 0} where
     -- a list begins
     pub list_begun : {z : Size} {h : Counts} {s : Schema} {i : ℕ} {a b : S} {K K1 : List Record} →
         ((a : S) (z : Size) (h : Counts) (k : ℕ) (b : S) → step a (list_begins z h k) b → is_count_within h k ≡ true) → ((k : ℕ) → is_count_within h k ≡ true → step a (list_begins z h k) b) →
-        K1 ≡ K ++ list_begins z h 0 ∷ [] → i ≡ length K → Begun step few within (sequence_of z h s) (listed z h s i 0) a b K K1
+        K1 ≡ K ++ list_begins z h 0 ∷ [] → i ≡ length K → Begun step few within (sequence_of z h s) (listed (λ k. list_begins z h k) h s i 0) a b K K1
     unfolding presents Fits normal
     list_begun {z} {h} {s} {i} {a} {b} {K} {K1} held begins e j = record {
       done = λ c more r.
@@ -173,6 +173,38 @@ module _ {S : Type 0} {step : S → Record → S → Type 0} where
       };
     }
 
+    -- a bag begins
+    pub bag_begun : {z : Size} {h : Counts} {s : Schema} {i : ℕ} {a b : S} {K K1 : List Record} →
+        ((a : S) (z : Size) (h : Counts) (k : ℕ) (b : S) → step a (bag_begins z h k) b → is_count_within h k ≡ true) → ((k : ℕ) → is_count_within h k ≡ true → step a (bag_begins z h k) b) →
+        K1 ≡ K ++ bag_begins z h 0 ∷ [] → i ≡ length K → Begun step few within (set_of z h s) (listed (λ k. bag_begins z h k) h s i 0) a b K K1
+    unfolding presents Fits normal
+    bag_begun {z} {h} {s} {i} {a} {b} {K} {K1} held begins e j = record {
+      done = λ c more r.
+          let q : 0 + member_count r.raw ≡ member_count r.raw = omega arith in
+          let us = map_members (λ v. normal s v) r.raw in
+          let l : 0 + member_count r.raw ≡ member_count us = q ∙ sym (count_mapped (λ v. normal s v) r.raw) in
+          record {
+            raw = bag r.raw;
+            fits = r.fits;
+            chain = (b, begins (member_count r.raw) (subst (λ (n : ℕ). is_count_within h n ≡ true) q r.within), r.chain);
+            kept = r.kept ∙ ap (λ o. set o i (bag_begins z h (0 + member_count r.raw))) (behind K (bag_begins z h 0 ∷ []) (member_records (λ v. presents s v) us) e refl)
+                ∙ ap (λ o. set (K ++ bag_begins z h 0 ∷ member_records (λ v. presents s v) us) o (bag_begins z h (0 + member_count r.raw))) j
+                ∙ set_there K (bag_begins z h 0) (bag_begins z h (0 + member_count r.raw)) (member_records (λ v. presents s v) us)
+                ∙ ap (λ o. K ++ bag_begins z h o ∷ member_records (λ v. presents s v) us) l;
+          };
+      stuck = λ failed x u. record {
+        none = λ y start near v c. elim v as (λ v. Fits (set_of z h s) v → Chain step (presents (set_of z h s) v) start c → ⊥) [
+          | bag vs ↦ λ g p.
+              let k = held start z h (member_count vs) p.0 p.1 in
+              let q = carries.bag z h (member_count vs) a b failed start (begins (member_count vs) k) near in
+              let e = (one start (bag_begins z h (member_count vs)) (bag_begins z h (member_count vs)) p.0 q.0 refl p.1 q.1).1 in
+              let n : member_count vs ≡ 0 + member_count vs = omega arith in
+              u.none y q.0 q.2 vs c (subst (λ (n : ℕ). is_count_within h n ≡ true) n k) g (subst (λ (o : S). Chain step (member_records (λ v. presents s v) vs) o c) e p.2)
+          | _ ↦ λ g p. g
+        ];
+      };
+    }
+
 -- no list begins here
 pub no_list : {S : Type 0} {step : S → Record → S → Type 0} {few : S → S → S → Type 0} {z : Size} {h : Counts} (s : Schema) {m : ℕ} {a failed : S} {x : DecodeError} → 0 < m →
     NoLevel step few (asks_list z h) m a failed x → NoValue step few (sequence_of z h s) a failed x
@@ -180,6 +212,17 @@ unfolding presents Fits
 no_list {step = step} {z = z} {h = h} s l k = record {
   none = λ w start near v c. elim v as (λ v. Fits (sequence_of z h s) v → Chain step (presents (sequence_of z h s) v) start c → ⊥) [
     | members vs ↦ λ g p. k.none w start near l _ p.0 refl p.1
+    | _ ↦ λ g p. g
+  ];
+}
+
+-- no bag begins here
+pub no_bag : {S : Type 0} {step : S → Record → S → Type 0} {few : S → S → S → Type 0} {z : Size} {h : Counts} (s : Schema) {m : ℕ} {a failed : S} {x : DecodeError} → 0 < m →
+    NoLevel step few (asks_bag z h) m a failed x → NoValue step few (set_of z h s) a failed x
+unfolding presents Fits
+no_bag {step = step} {z = z} {h = h} s l k = record {
+  none = λ w start near v c. elim v as (λ v. Fits (set_of z h s) v → Chain step (presents (set_of z h s) v) start c → ⊥) [
+    | bag vs ↦ λ g p. k.none w start near l _ p.0 refl p.1
     | _ ↦ λ g p. g
   ];
 }

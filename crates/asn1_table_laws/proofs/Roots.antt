@@ -2,11 +2,11 @@
 use Rattle.std.proofs.Common.{◌≡◌, ◌∙◌, refl, sym, ap, subst, ℕ, ◌<◌, Bool, true, false, List, [], ◌∷◌, ◌++◌}
 use Rattle.std.specs.Prelude.{◌||◌, not}
 use Rattle.asn1_model.specs.Value.{Value, Parts, fields, end, absent, present}
-use Rattle.asn1_model.specs.Schema.{Tag, Presence, required, optional, by_default, Schema, sequence, Components, no_component, component}
+use Rattle.asn1_model.specs.Schema.{Tag, Presence, required, optional, by_default, Schema, sequence, set, Components, no_component, component}
 use Rattle.asn1_model.specs.Normal.{normal, normal_parts, is_required, is_at_default}
 use Rattle.asn1_model.specs.Lawful.{is_group, are_no_components}
 use Rattle.asn1_schema_errors.specs.declared.DecodeError.{DecodeError}
-use Rattle.asn1_schema_laws.specs.Records.{Record, sequence_begins, presence_bit, additions_begin, asks_sequence, asks_presence_bit, asks_additions}
+use Rattle.asn1_schema_laws.specs.Records.{Record, sequence_begins, set_begins, presence_bit, additions_begin, asks_sequence, asks_set, asks_presence_bit, asks_additions}
 use Rattle.asn1_schema_laws.specs.Presents.{Part, left_out, there, with_part, presents, part_records, noted}
 use Rattle.asn1_schema_laws.specs.Presents.{root_records, added_records, behind_root, optional_count, component_count}
 use Rattle.asn1_schema_laws.specs.Presents.{Fits, PartFits, PartsFit}
@@ -264,12 +264,45 @@ module _ {S : Type 0} {step : S → Record → S → Type 0} where
         };
       }
 
+      -- a set begins
+      pub set_begun : {within : S → S → S → Type 0} {cs : Components} {e : Bool} {adds : Components} {a b : S} {K K1 : List Record} → step a (set_begins e (optional_count cs)) b →
+          K1 ≡ K ++ set_begins e (optional_count cs) ∷ [] → Begun step few within (set cs e adds) (root cs e adds) a b K K1
+      unfolding presents Fits normal
+      set_begun {cs} {e} {adds} {a} {b} {K} m k = record {
+        done = λ c more r. record {
+          raw = fields r.raw r.additions;
+          fits = (r.fits, r.fits_added);
+          chain = (b, m, r.chain);
+          kept = behind K (set_begins e (optional_count cs) ∷ []) (root_records cs (normal_parts cs r.raw) (behind_root e adds (added_records adds (normal_parts adds r.additions)))) k r.kept;
+        };
+        stuck = λ failed x u. record {
+          none = λ w start near v c.
+              let i = carries (set_begins e (optional_count cs)) a b failed start refl m near in
+              elim v as (λ v. Fits (set cs e adds) v → Chain step (presents (set cs e adds) v) start c → ⊥) [
+                | fields ps qs ↦ λ g p. u.none w i.0 i.2 ps qs c g.0 g.1 (subst (λ (z : S). Chain step (root_records cs ps (behind_root e adds (added_records adds qs))) z c)
+                    (one start (set_begins e (optional_count cs)) (set_begins e (optional_count cs)) p.0 i.0 refl p.1 i.1).1 p.2)
+                | _ ↦ λ g p. g
+              ];
+        };
+      }
+
 -- no sequence begins here
 pub no_sequence : {S : Type 0} {step : S → Record → S → Type 0} {few : S → S → S → Type 0} (cs : Components) {e : Bool} (adds : Components) {m : ℕ} {a failed : S} {x : DecodeError} → 0 < m →
     NoLevel step few (asks_sequence e (optional_count cs)) m a failed x → NoValue step few (sequence cs e adds) a failed x
 unfolding presents Fits
 no_sequence {step = step} cs {e} adds l k = record {
   none = λ w start near v c. elim v as (λ v. Fits (sequence cs e adds) v → Chain step (presents (sequence cs e adds) v) start c → ⊥) [
+    | fields ps qs ↦ λ g p. k.none w start near l _ p.0 refl p.1
+    | _ ↦ λ g p. g
+  ];
+}
+
+-- no set begins here
+pub no_set : {S : Type 0} {step : S → Record → S → Type 0} {few : S → S → S → Type 0} (cs : Components) {e : Bool} (adds : Components) {m : ℕ} {a failed : S} {x : DecodeError} → 0 < m →
+    NoLevel step few (asks_set e (optional_count cs)) m a failed x → NoValue step few (set cs e adds) a failed x
+unfolding presents Fits
+no_set {step = step} cs {e} adds l k = record {
+  none = λ w start near v c. elim v as (λ v. Fits (set cs e adds) v → Chain step (presents (set cs e adds) v) start c → ⊥) [
     | fields ps qs ↦ λ g p. k.none w start near l _ p.0 refl p.1
     | _ ↦ λ g p. g
   ];

@@ -1,13 +1,13 @@
 -- A walk over the records of a value: what it has read and kept, and what it still expects.
 use Rattle.std.specs.Prelude.{◌≡◌, ◌+◌, ℕ, Bool, true, List, [], ◌∷◌, ◌++◌, Option, Some, None, slice_set as set}
 use Rattle.asn1_model.specs.Value.{Value, Values, Parts, map_members}
-use Rattle.asn1_model.specs.Schema.{Size, Counts, Schema, Components}
+use Rattle.asn1_model.specs.Schema.{Counts, Schema, Components}
 use Rattle.asn1_model.specs.Numbers.{is_count_within}
 use Rattle.asn1_model.specs.Normal.{normal, normal_parts}
 use Rattle.asn1_model.specs.Lawful.{member_count}
 use Rattle.asn1_schema_errors.specs.declared.DecodeError.{DecodeError}
 use Rattle.asn1_schema_errors.specs.declared.DecodeError.TheVariants.{OutOfMemory}
-use Rattle.asn1_schema_laws.specs.Records.{Record, list_begins, addition_ends}
+use Rattle.asn1_schema_laws.specs.Records.{Record, addition_ends}
 use Rattle.asn1_schema_laws.specs.Presents.{presents, member_records, root_records, added_records, behind_root}
 use Rattle.asn1_schema_laws.specs.Presents.{Fits, AllFit, PartsFit}
 use Rattle.asn1_schema_laws.specs.Chains.{Chain}
@@ -36,9 +36,9 @@ NoValue step few s old failed x = Unread step few (λ _. s) 0 old failed x
 
 -- What is still to come of a value that has begun.
 pub data Pending : Type 0 where
-  -- members of a list, and its end: its size, the counts that are held, the type of the members, where its beginning is
-  -- kept, and how many members were read
-  members : Size → Counts → Schema → ℕ → ℕ → Pending
+  -- members of a list, and its end: its beginning by the count of members, the counts that are held, the type of the
+  -- members, where its beginning is kept, and how many members were read
+  members : (ℕ → Record) → Counts → Schema → ℕ → ℕ → Pending
   -- root components, then additions, if there are any or there is an extension marker, and the end
   root : Components → Bool → Components → Pending
   -- additions, and the end
@@ -49,7 +49,7 @@ pub data Pending : Type 0 where
   lost : Pending
 
 -- The rest of a list is read, and its count is put where its beginning is kept.
-pub record EndsMembers {S : Type 0} (step : S → Record → S → Type 0) (z : Size) (h : Counts) (s : Schema)
+pub record EndsMembers {S : Type 0} (step : S → Record → S → Type 0) (f : ℕ → Record) (h : Counts) (s : Schema)
     (place count : ℕ) (old new : S) (before after : List Record) : Type 0 where
   pub raw : Values
   pub fits : AllFit (λ v. Fits s v) raw
@@ -57,7 +57,7 @@ pub record EndsMembers {S : Type 0} (step : S → Record → S → Type 0) (z : 
   pub chain : Chain step (member_records (λ v. presents s v) raw) old new
   pub kept : after
       ≡ set (before ++ member_records (λ v. presents s v) (map_members (λ v. normal s v) raw)) place
-      (list_begins z h (count + member_count raw))
+      (f (count + member_count raw))
 
 -- The rest of a sequence is read, from a root component on.
 pub record EndsRoot {S : Type 0} (step : S → Record → S → Type 0) (cs : Components) (e : Bool) (adds : Components)
@@ -88,7 +88,7 @@ pub record EndsInside {S : Type 0} (step : S → Record → S → Type 0) (adds 
 
 -- What was still to come is read.
 abbrev pub Ends : {S : Type 0} → (S → Record → S → Type 0) → Pending → S → S → List Record → List Record → Type 0
-Ends step (members z h s place count) old new before after = EndsMembers step z h s place count old new before after
+Ends step (members f h s place count) old new before after = EndsMembers step f h s place count old new before after
 Ends step (root cs e adds) old new before after = EndsRoot step cs e adds old new before after
 Ends step (added adds) old new before after = EndsAdded step adds old new before after
 Ends step (inside adds) old new before after = EndsInside step adds old new before after
@@ -120,7 +120,7 @@ pub record StuckInside {S : Type 0} (step : S → Record → S → Type 0) (few 
 -- Why what is still to come is not read: for want of memory, or because it is not next, even with a little more input.
 abbrev pub Stuck : {S : Type 0} → (S → Record → S → Type 0) → (S → S → S → Type 0) → (S → S → S → Type 0) → Pending → S
     → S → DecodeError → Type 0
-Stuck step few within (members z h s place count) old failed x = StuckMembers step within h s count old failed x
+Stuck step few within (members f h s place count) old failed x = StuckMembers step within h s count old failed x
 Stuck step few within (root cs e adds) old failed x = StuckRoot step few cs e adds old failed x
 Stuck step few within (added adds) old failed x = StuckAdded step few adds old failed x
 Stuck step few within (inside adds) old failed x = StuckInside step few adds old failed x

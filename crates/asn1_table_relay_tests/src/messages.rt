@@ -4,7 +4,8 @@ use asn1_relay_core::Codec;
 use asn1_schema_constraints::{Bounded, Sizes};
 use asn1_schema_tags::Tag;
 use asn1_table_types::{
-    Alternative, AlternativeTable, ComponentTable, ItemTable, NumberLimits, Presence, TypeNode,
+    Alternative, AlternativeTable, ComponentTable, ItemTable, NumberLimits, Presence, StringKind,
+    StringTable, TypeNode,
 };
 use std::alloc::{AllocError, Global};
 
@@ -158,6 +159,61 @@ fn scalars_from_octets(rt: HostRuntime) {
             Codec::Uper,
             &SCALAR_OCTETS,
             &PACKED_SCALARS
+        )
+    );
+}
+
+/// SET {a SET OF INTEGER (0..255), b VisibleString}, at 3.
+fn set(alloc: Global) -> Nodes {
+    let octet = NumberLimits {
+        root: Bounded::const_new(0, 255),
+        is_extensible: false,
+    };
+    let text = StringTable {
+        kind: StringKind::Visible,
+        sizes: ANY,
+        alphabet: None,
+    };
+    let table = ComponentTable {
+        root: Vec::from_array(
+            alloc,
+            [
+                part(alloc, 0, Presence::Required, 1)?,
+                part(alloc, 1, Presence::Required, 2)?,
+            ],
+        )?,
+        is_extensible: false,
+        additions: Vec::new(alloc),
+    };
+    Ok(Vec::from_array(
+        alloc,
+        [
+            TypeNode::Integer(Some(octet)),
+            TypeNode::SetOf(ANY, 0),
+            TypeNode::CharacterString(text),
+            TypeNode::Set(table),
+        ],
+    )?)
+}
+
+/// {a {2, 1}, b "AB"} in UPER, its elements in another order than the canonical one (X.691 22 and 30).
+const PACKED_SET: [u8; 6] = [0x02, 0x02, 0x01, 0x02, 0x83, 0x08];
+
+/// The same in COER (X.696 19 and 27).
+const SET_OCTETS: [u8; 7] = [0x01, 0x02, 0x01, 0x02, 0x02, 0x41, 0x42];
+
+#[test]
+fn a_set_from_bits(rt: HostRuntime) {
+    let alloc = rt.alloc();
+    assert!(rt;
+        becomes(
+            alloc,
+            set(alloc),
+            3,
+            Codec::Uper,
+            Codec::Coer,
+            &PACKED_SET,
+            &SET_OCTETS
         )
     );
 }

@@ -1,7 +1,7 @@
 -- The nodes of a table, their components, and the records that are kept of them.
 use Rattle.std.proofs.Common.{◌≡◌, ◌∙◌, refl, ap, ℕ, zero, suc, ◌+◌, ◌<◌, true, false, cond, sym, List, [], ◌∷◌, ◌++◌, map, length, drop, get_or, slice_get, Option, Some, None, Result, Ok, Err, arith}
 use Rattle.std.proofs.lemmas.Bool.{and_parts}
-use Rattle.std.specs.Prelude.{slice_set as set}
+use Rattle.std.specs.Prelude.{slice_set as set, ◌&&◌}
 use Rattle.std.specs.Result.{IfErr, IfOk}
 use Rattle.std.proofs.lemmas.List.{drop_more}
 use Rattle.asn1_model.specs.Schema.{Schema}
@@ -15,10 +15,9 @@ use Rattle.asn1_table_types.specs.declared.nodes.Presence.{Presence}
 use Rattle.asn1_table_types.specs.declared.nodes.ComponentTable.{ComponentTable}
 use Rattle.asn1_table_types.specs.declared.nodes.Presence.TheVariants.{Required, Optional, Default}
 use Rattle.asn1_table_types.specs.declared.nodes.TypeNode.{TypeNode}
-use Rattle.asn1_table_types.specs.declared.nodes.TypeNode.TheVariants.{Sequence}
 use Rattle.asn1_table_types.specs.declared.nodes.TypeNode.TheVariants as node
 use Rattle.asn1_table_walker.specs.declared.tape.Event.{Event}
-use Rattle.asn1_table_walker.specs.Frames.{record_of, records_of, optional_in}
+use Rattle.asn1_table_walker.specs.Frames.{record_of, records_of, optional_in, table_in}
 use Rattle.asn1_table_walker.specs.Served.{has_no_default, have_no_default, is_served, are_served}
 
 -- ---- components
@@ -50,15 +49,40 @@ no_default Required e = refl
 no_default Optional e = refl
 no_default (Default t) e = absurd (let z : false ≡ true = e in cc)
 
-pub root_plain : (ns : List TypeNode) (place : ℕ) (t : ComponentTable) (i : ℕ) (x : Component) → are_served ns ≡ true → slice_get ns place ≡ Some (Sequence t) → i < length t.root.items →
-    x ≡ get_or t.root.items i x → has_default (presence_of x.presence) ≡ false
-root_plain ns place t i x l e h q = no_default x.presence (plain_at t.root.items i x (and_parts (have_no_default t.root.items) (have_no_default t.additions.items) (served_at ns place
-    (Sequence t) l e)).0 h q)
+-- no component of a SEQUENCE or SET that is served has a default
+served_table : (o : Option TypeNode) (t : ComponentTable) → ((y : TypeNode) → o ≡ Some y → is_served y ≡ true) → table_in o ≡ Some t →
+    (have_no_default t.root.items && have_no_default t.additions.items) ≡ true
+served_table (Some (node.Sequence u)) t h e = let q : Some u ≡ Some t = e in ap (λ (v : ComponentTable). have_no_default v.root.items && have_no_default v.additions.items) (sym (some_same q))
+    ∙ h (node.Sequence u) refl
+served_table (Some (node.Set u)) t h e = let q : Some u ≡ Some t = e in ap (λ (v : ComponentTable). have_no_default v.root.items && have_no_default v.additions.items) (sym (some_same q))
+    ∙ h (node.Set u) refl
+served_table None t h e = absurd (let q : None ≡ Some t = e in cc)
+served_table (Some node.Boolean) t h e = absurd (let q : None ≡ Some t = e in cc)
+served_table (Some node.Null) t h e = absurd (let q : None ≡ Some t = e in cc)
+served_table (Some (node.Integer l)) t h e = absurd (let q : None ≡ Some t = e in cc)
+served_table (Some (node.Enumerated u)) t h e = absurd (let q : None ≡ Some t = e in cc)
+served_table (Some (node.BitString z)) t h e = absurd (let q : None ≡ Some t = e in cc)
+served_table (Some (node.OctetString z)) t h e = absurd (let q : None ≡ Some t = e in cc)
+served_table (Some (node.CharacterString u)) t h e = absurd (let q : None ≡ Some t = e in cc)
+served_table (Some node.ObjectIdentifier) t h e = absurd (let q : None ≡ Some t = e in cc)
+served_table (Some (node.SequenceOf z i)) t h e = absurd (let q : None ≡ Some t = e in cc)
+served_table (Some (node.SetOf z i)) t h e = absurd (let q : None ≡ Some t = e in cc)
+served_table (Some (node.Group cs)) t h e = absurd (let q : None ≡ Some t = e in cc)
+served_table (Some (node.Choice u)) t h e = absurd (let q : None ≡ Some t = e in cc)
 
-pub added_plain : (ns : List TypeNode) (place : ℕ) (t : ComponentTable) (i : ℕ) (x : Component) → are_served ns ≡ true → slice_get ns place ≡ Some (Sequence t) → i < length t.additions.items →
+table_plain : (ns : List TypeNode) (place : ℕ) (t : ComponentTable) → are_served ns ≡ true → table_in (slice_get ns place) ≡ Some t →
+    (have_no_default t.root.items && have_no_default t.additions.items) ≡ true
+table_plain ns place t l e = served_table (slice_get ns place) t (λ y q. served_at ns place y l q) e
+
+pub root_plain : (ns : List TypeNode) (place : ℕ) (t : ComponentTable) (i : ℕ) (x : Component) → are_served ns ≡ true → table_in (slice_get ns place) ≡ Some t → i < length t.root.items →
+    x ≡ get_or t.root.items i x → has_default (presence_of x.presence) ≡ false
+root_plain ns place t i x l e h q = no_default x.presence (plain_at t.root.items i x (and_parts (have_no_default t.root.items) (have_no_default t.additions.items)
+    (table_plain ns place t l e)).0 h q)
+
+pub added_plain : (ns : List TypeNode) (place : ℕ) (t : ComponentTable) (i : ℕ) (x : Component) → are_served ns ≡ true → table_in (slice_get ns place) ≡ Some t → i < length t.additions.items →
     x ≡ get_or t.additions.items i x → has_default (presence_of x.presence) ≡ false
 added_plain ns place t i x l e h q = no_default x.presence (plain_at t.additions.items i x
-    (and_parts (have_no_default t.root.items) (have_no_default t.additions.items) (served_at ns place (Sequence t) l e)).1 h q)
+    (and_parts (have_no_default t.root.items) (have_no_default t.additions.items) (table_plain ns place t l e)).1 h q)
 
 no_group_of : (ns : List TypeNode) (n : ℕ) (y : TypeNode) → is_served y ≡ true → is_group (type_of ns n (Some y)) ≡ false
 no_group_of ns n node.Boolean e = refl

@@ -1,29 +1,34 @@
 -- Values of one record, and places of no type.
 use Rattle.std.proofs.Common.{◌≡◌, ◌∙◌, refl, sym, ap, subst, ℕ, ℤ, Vec, Global, Bool, true, false, List, [], ◌∷◌, ◌++◌, Option, Some, None, slice_get}
-use Rattle.asn1_model.specs.Value.{Value, same_number, truth, nothing, number, item, bit_list, octet_list, arcs}
-use Rattle.asn1_model.specs.Schema.{Bounds, Range, Size, Schema, boolean, null, object_identifier, bit_string, octet_string, any_count}
+use Rattle.asn1_model.specs.Value.{Value, same_number, truth, nothing, number, item, bit_list, octet_list, text, arcs}
+use Rattle.asn1_model.specs.Schema.{Bounds, Range, Size, Alphabet, Schema, boolean, null, object_identifier, bit_string, octet_string, any_count}
 use Rattle.asn1_model.specs.Lawful.{is_lawful, are_distinct}
 use Rattle.asn1_model.specs.Normal.{normal}
 use Rattle.std.proofs.lemmas.Bool.{and_parts}
 use Rattle.asn1_table_types.specs.Tables.{AreLawful}
 use Rattle.asn1_schema_errors.specs.declared.DecodeError.{DecodeError}
 use Rattle.asn1_schema_errors.specs.declared.DecodeError.TheVariants.{OutOfMemory}
-use Rattle.asn1_schema_laws.specs.Records.{Record, flag, nil, whole, one_of, bits, octets, identifier, asks_flag, asks_nil, asks_whole, asks_one_of, asks_bits, asks_octets, asks_identifier}
+use Rattle.asn1_schema_laws.specs.Records.{Record, flag, nil, whole, one_of, bits, octets, characters, identifier}
+use Rattle.asn1_schema_laws.specs.Records.{asks_flag, asks_nil, asks_whole, asks_one_of, asks_bits, asks_octets}
+use Rattle.asn1_schema_laws.specs.Records.{asks_characters, asks_identifier}
 use Rattle.asn1_schema_laws.specs.Chains.{Chain}
 use Rattle.asn1_schema_laws.specs.Presents.{presents, Fits}
 use Rattle.asn1_schema_decode.specs.Reads.{NoRecord}
-use Rattle.asn1_schema_decode.proofs.SingleRecords.{unread_boolean, unread_null, unread_integer, unread_bit_string, unread_octet_string, unread_identifier}
+use Rattle.asn1_schema_decode.proofs.SingleRecords.{unread_boolean, unread_null, unread_integer, unread_bit_string, unread_octet_string, unread_character_string, unread_identifier}
 use Rattle.asn1_table_laws.specs.Walks.{Told, NoValue}
-use Rattle.asn1_table_types.specs.Meaning.{type_of, type_at, bounds_in, held_in}
+use Rattle.asn1_table_types.specs.Meaning.{type_of, type_at, bounds_in, held_in, alphabet_in, kind_of}
 use Rattle.asn1_schema_constraints.specs.Terms.{size_of}
 use Rattle.asn1_schema_constraints.specs.declared.sizes.Sizes.{Sizes}
 use Rattle.asn1_table_types.specs.declared.nodes.NumberLimits.{NumberLimits}
 use Rattle.asn1_table_types.specs.declared.nodes.ItemTable.{ItemTable}
 use Rattle.asn1_table_types.specs.declared.nodes.TypeNode.{TypeNode}
-use Rattle.asn1_table_types.specs.declared.nodes.TypeNode.TheVariants.{Integer, Enumerated, BitString, OctetString}
+use Rattle.asn1_table_types.specs.declared.nodes.TypeNode.TheVariants.{Integer, Enumerated, BitString, OctetString, CharacterString as Strings}
+use Rattle.asn1_table_types.specs.declared.nodes.StringTable.{StringTable}
+use Rattle.asn1_table_walker.specs.declared.strings.CharacterString.{CharacterString}
+use Rattle.asn1_table_walker.specs.Strings.{kind_in, text_of}
 use Rattle.asn1_table_walker.specs.declared.tape.Event.{Event}
-use Rattle.asn1_table_walker.specs.declared.tape.Event.TheVariants.{Flag, Nil, Number, Item, Bits, Octets, Arcs}
-use Rattle.asn1_table_walker.specs.Frames.{record_of, records_of, number_record, item_record, bits_record, octets_record}
+use Rattle.asn1_table_walker.specs.declared.tape.Event.TheVariants.{Flag, Nil, Number, Item, Bits, Octets, Text, Arcs}
+use Rattle.asn1_table_walker.specs.Frames.{record_of, records_of, number_record, item_record, bits_record, octets_record, text_record}
 use Rattle.asn1_table_walker.specs.Served.{is_served, are_served}
 use Rattle.asn1_table_walker.proofs.Nodes.{kept_one, served_at}
 
@@ -83,6 +88,18 @@ module _ {S : Type 0} {step : S → Record → S → Type 0} where
       let s : record_of ns (Octets place v) ≡ octets (size_of z) any_count os = ap (λ o. octets_record o v.items) e ∙ ap (octets (size_of z) any_count) h in
       one_told ns old new (Octets place v) (type_of ns n (Some (OctetString z))) (octet_list os) refl refl tt s (subst (λ (y : Size). step a (octets y any_count os) b) q m) k
 
+  pub text_told : (ns : List TypeNode) (n place : ℕ) (t : StringTable) (old new : List Event) (v : CharacterString) {y : Size} {l : Alphabet} {a b : S} → y ≡ size_of t.sizes →
+      l ≡ alphabet_in t.alphabet → kind_in v ≡ kind_of t.kind →
+      slice_get ns place ≡ Some (Strings t) → step a (characters (kind_of t.kind) y l any_count (text_of v)) b → new ≡ old ++ Text place v ∷ [] →
+      Told step (type_of ns n (Some (Strings t))) a b (records_of ns old) (records_of ns new)
+  unfolding presents Fits normal
+  text_told ns n place t old new v {y} {l} {a} {b} q r h e m k =
+      let s : record_of ns (Text place v) ≡ characters (kind_of t.kind) (size_of t.sizes) (alphabet_in t.alphabet) any_count (text_of v) =
+      ap (λ o. text_record o v) e ∙ ap (λ k. characters k (size_of t.sizes) (alphabet_in t.alphabet) any_count (text_of v)) h in
+      one_told ns old new (Text place v) (type_of ns n (Some (Strings t))) (text (text_of v)) refl refl tt s
+      (subst (λ (l : Alphabet). step a (characters (kind_of t.kind) (size_of t.sizes) l any_count (text_of v)) b) r
+      (subst (λ (y : Size). step a (characters (kind_of t.kind) y l any_count (text_of v)) b) q m)) k
+
   pub flag_refused : {few : S → S → S → Type 0} {a failed : S} {x : DecodeError} → NoRecord step few asks_flag a failed x → NoValue step few boolean a failed x
   flag_refused u = unread_boolean 0 u
 
@@ -117,6 +134,14 @@ module _ {S : Type 0} {step : S → Record → S → Type 0} where
   pub octets_refused : (ns : List TypeNode) (n : ℕ) (z : Sizes) {y : Size} {few : S → S → S → Type 0} {a failed : S} {x : DecodeError} → y ≡ size_of z →
       NoRecord step few (asks_octets y any_count) a failed x → NoValue step few (type_of ns n (Some (OctetString z))) a failed x
   octets_refused ns n z {y} {few} {a} {failed} {x} q u = unread_octet_string (size_of z) any_count 0 (subst (λ (y : Size). NoRecord step few (asks_octets y any_count) a failed x) q u)
+
+  pub text_refused : (ns : List TypeNode) (n : ℕ) (t : StringTable) {y : Size} {l : Alphabet} {few : S → S → S → Type 0} {a failed : S} {x : DecodeError} → y ≡ size_of t.sizes →
+      l ≡ alphabet_in t.alphabet →
+      NoRecord step few (asks_characters (kind_of t.kind) y l any_count) a failed x → NoValue step few (type_of ns n (Some (Strings t))) a failed x
+  text_refused ns n t {y} {l} {few} {a} {failed} {x} q r u =
+      unread_character_string (kind_of t.kind) (size_of t.sizes) (alphabet_in t.alphabet) any_count 0
+      (subst (λ (l : Alphabet). NoRecord step few (asks_characters (kind_of t.kind) (size_of t.sizes) l any_count) a failed x) r
+      (subst (λ (y : Size). NoRecord step few (asks_characters (kind_of t.kind) y l any_count) a failed x) q u))
 
   -- where memory ran out
   pub no_memory : (s : Schema) {few : S → S → S → Type 0} {a failed : S} {x : DecodeError} → x ≡ OutOfMemory → NoValue step few s a failed x

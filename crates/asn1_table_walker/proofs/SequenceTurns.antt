@@ -8,9 +8,9 @@ use Rattle.asn1_model.specs.Schema as model
 use Rattle.asn1_model.specs.Normal.{is_required}
 use Rattle.asn1_model.specs.Lawful.{are_no_components, is_empty}
 use Rattle.asn1_schema_errors.specs.declared.DecodeError.{DecodeError}
-use Rattle.asn1_schema_laws.specs.Records.{Record, sequence_begins, presence_bit, additions_begin, addition}
-use Rattle.asn1_schema_laws.specs.Records.{addition_ends, ends, asks_sequence, asks_presence_bit, asks_additions}
-use Rattle.asn1_schema_laws.specs.Records.{asks_addition, asks_addition_end}
+use Rattle.asn1_schema_laws.specs.Records.{Record, sequence_begins, set_begins, presence_bit, additions_begin, addition}
+use Rattle.asn1_schema_laws.specs.Records.{addition_ends, ends, asks_sequence, asks_set, asks_presence_bit}
+use Rattle.asn1_schema_laws.specs.Records.{asks_additions, asks_addition, asks_addition_end}
 use Rattle.asn1_schema_laws.specs.Presents.{Fits, component_count, optional_count}
 use Rattle.asn1_schema_laws.specs.Chains.{OneRecord}
 use Rattle.asn1_schema_lacking_laws.specs.Carried.{CarriesRecords, CarriesValues}
@@ -18,18 +18,19 @@ use Rattle.asn1_schema_decode.specs.Reads.{NoRecord, NoLevel}
 use Rattle.asn1_schema_tags.specs.Tags.{tag_of}
 use Rattle.asn1_table_laws.specs.Walks.{NoValue, Ends, Stuck, Begun, Passes, Awaits, StuckRoot, StuckAdded, EndsAdded, Pending}
 use Rattle.asn1_table_laws.specs.Walks as walk
-use Rattle.asn1_table_laws.proofs.Roots.{no_sequence, sequence_begun, required_awaited, present_awaited, absent_passes as left_out_passes, bit_stuck, rest_passes, rest_stuck, end_passes}
+use Rattle.asn1_table_laws.proofs.Roots.{no_sequence, no_set, sequence_begun, set_begun, required_awaited}
+use Rattle.asn1_table_laws.proofs.Roots.{present_awaited, absent_passes as left_out_passes, bit_stuck, rest_passes}
+use Rattle.asn1_table_laws.proofs.Roots.{rest_stuck, end_passes}
 use Rattle.asn1_table_laws.proofs.Additions.{added_ends, addition_stuck, inside_stuck, required_refused, absent_passes, value_awaited, inside_passes}
 use Rattle.asn1_table_types.specs.Meaning.{type_of, type_at, components_of, presence_of}
 use Rattle.asn1_table_types.proofs.TagLaws.{none_are}
 use Rattle.asn1_table_types.specs.declared.nodes.Component.{Component}
 use Rattle.asn1_table_types.specs.declared.nodes.ComponentTable.{ComponentTable}
 use Rattle.asn1_table_types.specs.declared.nodes.TypeNode.{TypeNode}
-use Rattle.asn1_table_types.specs.declared.nodes.TypeNode.TheVariants.{Sequence}
-use Rattle.asn1_table_types.specs.declared.nodes.TypeNode.TheVariants as node
+use Rattle.asn1_table_types.specs.declared.nodes.TypeNode.TheVariants.{Sequence, Set}
 use Rattle.asn1_table_walker.specs.declared.tape.Event.{Event}
-use Rattle.asn1_table_walker.specs.declared.tape.Event.TheVariants.{SequenceBegins, PresenceBit, AdditionsBegin, Addition, AdditionEnds, Ends as Ended}
-use Rattle.asn1_table_walker.specs.Frames.{records_of, optional_in, pending_root, pending_added, pending_inside}
+use Rattle.asn1_table_walker.specs.declared.tape.Event.TheVariants.{SequenceBegins, SetBegins, PresenceBit, AdditionsBegin, Addition, AdditionEnds, Ends as Ended}
+use Rattle.asn1_table_walker.specs.Frames.{records_of, optional_in, table_in, pending_root, pending_added, pending_inside}
 use Rattle.asn1_table_walker.proofs.Nodes.{kept_one, optional_counted, components_counted, no_group, root_plain, added_plain}
 use Rattle.asn1_table_walker.specs.Served.{are_served}
 
@@ -71,22 +72,50 @@ module _ {S : Type 0} {step : S → Record → S → Type 0} {few : S → S → 
           no_sequence (components_of f t.root.items) (components_of f t.additions.items) (let l : 0 < suc n = omega arith in l)
           (subst (λ (k : ℕ). NoLevel step few (asks_sequence t.is_extensible k) (suc n) a failed x) (q ∙ sym (optional_counted f t.root.items)) u)
 
+  -- no set begins
+  pub set_refused : (ns : List TypeNode) (place : ℕ) (t : ComponentTable) (m : ℕ) {k : ℕ} {a failed : S} {x : DecodeError} → k ≡ optional_in t.root.items → slice_get ns place ≡ Some (Set t) →
+      NoLevel step few (asks_set t.is_extensible k) m a failed x → NoValue step few (type_at ns m place) a failed x
+  unfolding Fits
+  set_refused ns place t m {k} {a} {failed} {x} q e u = subst (λ (o : Option TypeNode). NoValue step few (type_of ns m o) a failed x) (sym e) (at m u)
+    where
+      at : (m : ℕ) → NoLevel step few (asks_set t.is_extensible k) m a failed x → NoValue step few (type_of ns m (Some (Set t))) a failed x
+      at zero u = record { none = λ w start near v c f p. f }
+      at (suc n) u =
+          let f : ℕ → Schema = λ i. type_at ns n i in
+          no_set (components_of f t.root.items) (components_of f t.additions.items) (let l : 0 < suc n = omega arith in l)
+          (subst (λ (k : ℕ). NoLevel step few (asks_set t.is_extensible k) (suc n) a failed x) (q ∙ sym (optional_counted f t.root.items)) u)
+
   module _ (one : OneRecord step) (carries : CarriesRecords step few) (values : CarriesValues step few) (within : S → S → S → Type 0) where
     -- a sequence begins
     pub sequence_opened : (ns : List TypeNode) (place : ℕ) (t : ComponentTable) (m n : ℕ) (old new : List Event) (k : ℕ) {a b : S} → k ≡ optional_in t.root.items →
         slice_get ns place ≡ Some (Sequence t) → m ≡ n + 1 → step a (sequence_begins t.is_extensible k) b → new ≡ old ++ SequenceBegins t.is_extensible k ∷ [] →
-        Begun step few within (type_at ns m place) (pending_root ns n (slice_get ns place) 0) a b (records_of ns old) (records_of ns new)
+        Begun step few within (type_at ns m place) (pending_root ns n (table_in (slice_get ns place)) 0) a b (records_of ns old) (records_of ns new)
     sequence_opened ns place t m n old new k {a} {b} q e l h j =
         let f : ℕ → Schema = λ i. type_at ns n i in
         let c : k ≡ optional_count (components_of f t.root.items) = q ∙ sym (optional_counted f t.root.items) in
         let r : records_of ns new ≡ records_of ns old ++ sequence_begins t.is_extensible (optional_count (components_of f t.root.items)) ∷ [] =
         kept_one ns old new (SequenceBegins t.is_extensible k) j ∙ ap (λ k. records_of ns old ++ sequence_begins t.is_extensible k ∷ []) c in
-        let w : Begun step few within (type_of ns (suc n) (Some (Sequence t))) (pending_root ns n (Some (Sequence t)) 0) a b (records_of ns old) (records_of ns new) =
+        let w : Begun step few within (type_of ns (suc n) (Some (Sequence t))) (pending_root ns n (Some t) 0) a b (records_of ns old) (records_of ns new) =
         sequence_begun one carries values (subst (λ (k : ℕ). step a (sequence_begins t.is_extensible k) b) c h) r in
-        let v : Begun step few within (type_of ns m (Some (Sequence t))) (pending_root ns n (Some (Sequence t)) 0) a b (records_of ns old) (records_of ns new) = subst
-        (λ (m : ℕ). Begun step few within (type_of ns m (Some (Sequence t))) (pending_root ns n (Some (Sequence t)) 0) a b (records_of ns old) (records_of ns new))
+        let v : Begun step few within (type_of ns m (Some (Sequence t))) (pending_root ns n (Some t) 0) a b (records_of ns old) (records_of ns new) = subst
+        (λ (m : ℕ). Begun step few within (type_of ns m (Some (Sequence t))) (pending_root ns n (Some t) 0) a b (records_of ns old) (records_of ns new))
         (let g : suc n ≡ m = omega arith in g) w in
-        subst (λ (o : Option TypeNode). Begun step few within (type_of ns m o) (pending_root ns n o 0) a b (records_of ns old) (records_of ns new)) (sym e) v
+        subst (λ (o : Option TypeNode). Begun step few within (type_of ns m o) (pending_root ns n (table_in o) 0) a b (records_of ns old) (records_of ns new)) (sym e) v
+
+    -- a set begins
+    pub set_opened : (ns : List TypeNode) (place : ℕ) (t : ComponentTable) (m n : ℕ) (old new : List Event) (k : ℕ) {a b : S} → k ≡ optional_in t.root.items →
+        slice_get ns place ≡ Some (Set t) → m ≡ n + 1 → step a (set_begins t.is_extensible k) b → new ≡ old ++ SetBegins t.is_extensible k ∷ [] →
+        Begun step few within (type_at ns m place) (pending_root ns n (table_in (slice_get ns place)) 0) a b (records_of ns old) (records_of ns new)
+    set_opened ns place t m n old new k {a} {b} q e l h j =
+        let f : ℕ → Schema = λ i. type_at ns n i in
+        let c : k ≡ optional_count (components_of f t.root.items) = q ∙ sym (optional_counted f t.root.items) in
+        let r : records_of ns new ≡ records_of ns old ++ set_begins t.is_extensible (optional_count (components_of f t.root.items)) ∷ [] =
+        kept_one ns old new (SetBegins t.is_extensible k) j ∙ ap (λ k. records_of ns old ++ set_begins t.is_extensible k ∷ []) c in
+        let w : Begun step few within (type_of ns (suc n) (Some (Set t))) (pending_root ns n (Some t) 0) a b (records_of ns old) (records_of ns new) =
+        set_begun one carries values (subst (λ (k : ℕ). step a (set_begins t.is_extensible k) b) c h) r in
+        let v : Begun step few within (type_of ns m (Some (Set t))) (pending_root ns n (Some t) 0) a b (records_of ns old) (records_of ns new) = subst
+        (λ (m : ℕ). Begun step few within (type_of ns m (Some (Set t))) (pending_root ns n (Some t) 0) a b (records_of ns old) (records_of ns new)) (let g : suc n ≡ m = omega arith in g) w in
+        subst (λ (o : Option TypeNode). Begun step few within (type_of ns m o) (pending_root ns n (table_in o) 0) a b (records_of ns old) (records_of ns new)) (sym e) v
 
     -- behind the root components
     module _ (ns : List TypeNode) (n : ℕ) (t : ComponentTable) where
@@ -115,145 +144,124 @@ module _ {S : Type 0} {step : S → Record → S → Type 0} {few : S → S → 
           let f : ℕ → Schema = λ i. type_at ns n i in
           rest_stuck one carries (open_as f t q ∙ z) (subst (λ (k : ℕ). NoRecord step few (asks_additions k) a failed x) (j ∙ sym (components_counted f t.additions.items)) u)
 
-    module _ (ns : List TypeNode) (n sequence next : ℕ) (t : ComponentTable) (e : slice_get ns sequence ≡ Some (Sequence t)) where
+    module _ (ns : List TypeNode) (n sequence next : ℕ) (t : ComponentTable) (e : table_in (slice_get ns sequence) ≡ Some t) where
       -- what a frame means at a component, and behind the last one
       pub root_is : (x : Component) → next < length t.root.items → x ≡ get_or t.root.items next x →
-          pending_root ns n (slice_get ns sequence) next ≡ walk.root (model.component (map tag_of x.tags.items) (presence_of x.presence) (type_at ns n x.place)
+          pending_root ns n (table_in (slice_get ns sequence)) next ≡ walk.root (model.component (map tag_of x.tags.items) (presence_of x.presence) (type_at ns n x.place)
           (components_of (λ i. type_at ns n i) (drop (next + 1) t.root.items))) t.is_extensible (components_of (λ i. type_at ns n i) t.additions.items)
       root_is x l q = ap (λ o. pending_root ns n o next) e ∙ ap (λ cs. walk.root cs t.is_extensible (components_of (λ i. type_at ns n i) t.additions.items))
           (component_is (λ i. type_at ns n i) t.root.items next x l q)
 
-      pub root_done : length t.root.items ≤ next → pending_root ns n (slice_get ns sequence) next ≡ walk.root no_component t.is_extensible (components_of (λ i. type_at ns n i) t.additions.items)
+      pub root_done : length t.root.items ≤ next → pending_root ns n (table_in (slice_get ns sequence)) next ≡ walk.root no_component t.is_extensible
+          (components_of (λ i. type_at ns n i) t.additions.items)
       root_done l = ap (λ o. pending_root ns n o next) e ∙ ap (λ cs. walk.root cs t.is_extensible (components_of (λ i. type_at ns n i) t.additions.items))
           (components_done (λ i. type_at ns n i) t.root.items next l)
 
       added_is : (x : Component) → next < length t.additions.items → x ≡ get_or t.additions.items next x →
-          pending_added ns n (slice_get ns sequence) next ≡ walk.added (model.component (map tag_of x.tags.items) (presence_of x.presence) (type_at ns n x.place)
+          pending_added ns n (table_in (slice_get ns sequence)) next ≡ walk.added (model.component (map tag_of x.tags.items) (presence_of x.presence) (type_at ns n x.place)
           (components_of (λ i. type_at ns n i) (drop (next + 1) t.additions.items)))
       added_is x l q = ap (λ o. pending_added ns n o next) e ∙ ap (λ cs. walk.added cs) (component_is (λ i. type_at ns n i) t.additions.items next x l q)
 
-      pub added_done : length t.additions.items ≤ next → pending_added ns n (slice_get ns sequence) next ≡ walk.added no_component
+      pub added_done : length t.additions.items ≤ next → pending_added ns n (table_in (slice_get ns sequence)) next ≡ walk.added no_component
       added_done l = ap (λ o. pending_added ns n o next) e ∙ ap (λ cs. walk.added cs) (components_done (λ i. type_at ns n i) t.additions.items next l)
 
-      root_next : pending_root ns n (slice_get ns sequence) (next + 1) ≡ walk.root (components_of (λ i. type_at ns n i) (drop (next + 1) t.root.items)) t.is_extensible
+      root_next : pending_root ns n (table_in (slice_get ns sequence)) (next + 1) ≡ walk.root (components_of (λ i. type_at ns n i) (drop (next + 1) t.root.items)) t.is_extensible
           (components_of (λ i. type_at ns n i) t.additions.items)
       root_next = ap (λ o. pending_root ns n o (next + 1)) e
 
-      added_next : pending_added ns n (slice_get ns sequence) (next + 1) ≡ walk.added (components_of (λ i. type_at ns n i) (drop (next + 1) t.additions.items))
+      added_next : pending_added ns n (table_in (slice_get ns sequence)) (next + 1) ≡ walk.added (components_of (λ i. type_at ns n i) (drop (next + 1) t.additions.items))
       added_next = ap (λ o. pending_added ns n o (next + 1)) e
 
-      inside_next : pending_inside ns n (slice_get ns sequence) (next + 1) ≡ walk.inside (components_of (λ i. type_at ns n i) (drop (next + 1) t.additions.items))
+      inside_next : pending_inside ns n (table_in (slice_get ns sequence)) (next + 1) ≡ walk.inside (components_of (λ i. type_at ns n i) (drop (next + 1) t.additions.items))
       inside_next = ap (λ o. pending_inside ns n o (next + 1)) e
 
       -- ---- a turn at a root component
       module _ (x : Component) (l : next < length t.root.items) (q : x ≡ get_or t.root.items next x) where
         pub required_comes : {a : S} {K : List Record} → are_served ns ≡ true → is_required (presence_of x.presence) ≡ true →
-            Awaits step few within (pending_root ns n (slice_get ns sequence) next) (pending_root ns n (slice_get ns sequence) (next + 1)) (type_at ns n x.place) a a K K
-        required_comes {a} {K} served r = subst (λ (p : Pending). Awaits step few within p (pending_root ns n (slice_get ns sequence) (next + 1)) (type_at ns n x.place) a a K K)
+            Awaits step few within (pending_root ns n (table_in (slice_get ns sequence)) next) (pending_root ns n (table_in (slice_get ns sequence)) (next + 1)) (type_at ns n x.place) a a K K
+        required_comes {a} {K} served r = subst (λ (p : Pending). Awaits step few within p (pending_root ns n (table_in (slice_get ns sequence)) (next + 1)) (type_at ns n x.place) a a K K)
             (sym (root_is x l q))
             (subst (λ (p : Pending). Awaits step few within (walk.root (model.component (map tag_of x.tags.items) (presence_of x.presence) (type_at ns n x.place) (components_of
             (λ i. type_at ns n i) (drop (next + 1) t.root.items))) t.is_extensible (components_of (λ i. type_at ns n i) t.additions.items)) p (type_at ns n x.place) a a K K) (sym root_next)
             (required_awaited one carries values r (root_plain ns sequence t next x served e l q) (no_group ns n x.place served)))
 
         pub present_comes : {a b : S} (old new : List Event) → are_served ns ≡ true → is_required (presence_of x.presence) ≡ false → step a (presence_bit true) b →
-            new ≡ old ++ PresenceBit true ∷ [] → Awaits step few within (pending_root ns n (slice_get ns sequence) next) (pending_root ns n (slice_get ns sequence) (next + 1))
-            (type_at ns n x.place) a b (records_of ns old) (records_of ns new)
-        present_comes {a} {b} old new served r m k = subst (λ (p : Pending). Awaits step few within p (pending_root ns n (slice_get ns sequence) (next + 1)) (type_at ns n x.place) a b
-            (records_of ns old) (records_of ns new)) (sym (root_is x l q))
+            new ≡ old ++ PresenceBit true ∷ [] → Awaits step few within (pending_root ns n (table_in (slice_get ns sequence)) next)
+            (pending_root ns n (table_in (slice_get ns sequence)) (next + 1)) (type_at ns n x.place) a b (records_of ns old) (records_of ns new)
+        present_comes {a} {b} old new served r m k = subst (λ (p : Pending). Awaits step few within p (pending_root ns n (table_in (slice_get ns sequence)) (next + 1))
+            (type_at ns n x.place) a b (records_of ns old) (records_of ns new)) (sym (root_is x l q))
             (subst (λ (p : Pending). Awaits step few within (walk.root (model.component (map tag_of x.tags.items) (presence_of x.presence) (type_at ns n x.place) (components_of
             (λ i. type_at ns n i) (drop (next + 1) t.root.items))) t.is_extensible (components_of (λ i. type_at ns n i) t.additions.items)) p (type_at ns n x.place) a b (records_of ns old)
             (records_of ns new)) (sym root_next)
             (present_awaited one carries values r (root_plain ns sequence t next x served e l q) (no_group ns n x.place served) m (kept_one ns old new (PresenceBit true) k)))
 
         pub absent_goes : {a b : S} (old new : List Event) → is_required (presence_of x.presence) ≡ false → step a (presence_bit false) b → new ≡ old ++ PresenceBit false ∷ [] →
-            Passes step few within (pending_root ns n (slice_get ns sequence) next) (pending_root ns n (slice_get ns sequence) (next + 1)) a b (records_of ns old) (records_of ns new)
-        absent_goes {a} {b} old new r m k = subst (λ (p : Pending). Passes step few within p (pending_root ns n (slice_get ns sequence) (next + 1)) a b (records_of ns old) (records_of ns new))
-            (sym (root_is x l q))
+            Passes step few within (pending_root ns n (table_in (slice_get ns sequence)) next) (pending_root ns n (table_in (slice_get ns sequence)) (next + 1)) a b (records_of ns old)
+            (records_of ns new)
+        absent_goes {a} {b} old new r m k = subst (λ (p : Pending). Passes step few within p (pending_root ns n (table_in (slice_get ns sequence)) (next + 1)) a b (records_of ns old)
+            (records_of ns new)) (sym (root_is x l q))
             (subst (λ (p : Pending). Passes step few within (walk.root (model.component (map tag_of x.tags.items) (presence_of x.presence) (type_at ns n x.place) (components_of
             (λ i. type_at ns n i) (drop (next + 1) t.root.items))) t.is_extensible (components_of (λ i. type_at ns n i) t.additions.items)) p a b (records_of ns old) (records_of ns new))
             (sym root_next)
             (left_out_passes one carries values r m (kept_one ns old new (PresenceBit false) k)))
 
         pub bit_refused : {a failed : S} {y : DecodeError} → is_required (presence_of x.presence) ≡ false → NoRecord step few asks_presence_bit a failed y →
-            Stuck step few within (pending_root ns n (slice_get ns sequence) next) a failed y
+            Stuck step few within (pending_root ns n (table_in (slice_get ns sequence)) next) a failed y
         bit_refused {a} {failed} {y} r u = subst (λ (p : Pending). Stuck step few within p a failed y) (sym (root_is x l q)) (bit_stuck one carries r u)
 
       -- ---- a turn at an addition
       module _ (x : Component) (l : next < length t.additions.items) (q : x ≡ get_or t.additions.items next x) where
         pub addition_comes : {a b : S} (old new : List Event) → are_served ns ≡ true → step a (addition true) b → new ≡ old ++ Addition true ∷ [] →
-            Awaits step few within (pending_added ns n (slice_get ns sequence) next) (pending_inside ns n (slice_get ns sequence) (next + 1)) (type_at ns n x.place) a b (records_of ns old)
-            (records_of ns new)
-        addition_comes {a} {b} old new served m k = subst (λ (p : Pending). Awaits step few within p (pending_inside ns n (slice_get ns sequence) (next + 1)) (type_at ns n x.place) a b
-            (records_of ns old) (records_of ns new)) (sym (added_is x l q))
+            Awaits step few within (pending_added ns n (table_in (slice_get ns sequence)) next) (pending_inside ns n (table_in (slice_get ns sequence)) (next + 1)) (type_at ns n x.place) a b
+            (records_of ns old) (records_of ns new)
+        addition_comes {a} {b} old new served m k = subst (λ (p : Pending). Awaits step few within p (pending_inside ns n (table_in (slice_get ns sequence)) (next + 1))
+            (type_at ns n x.place) a b (records_of ns old) (records_of ns new)) (sym (added_is x l q))
             (subst (λ (p : Pending). Awaits step few within (walk.added (model.component (map tag_of x.tags.items) (presence_of x.presence) (type_at ns n x.place) (components_of
             (λ i. type_at ns n i) (drop (next + 1) t.additions.items)))) p (type_at ns n x.place) a b (records_of ns old) (records_of ns new)) (sym inside_next)
             (value_awaited one carries values (added_plain ns sequence t next x served e l q) (no_group ns n x.place served) m (kept_one ns old new (Addition true) k)))
 
         pub addition_goes : {a b : S} (old new : List Event) → is_required (presence_of x.presence) ≡ false → step a (addition false) b → new ≡ old ++ Addition false ∷ [] →
-            Passes step few within (pending_added ns n (slice_get ns sequence) next) (pending_added ns n (slice_get ns sequence) (next + 1)) a b (records_of ns old) (records_of ns new)
-        addition_goes {a} {b} old new r m k = subst (λ (p : Pending). Passes step few within p (pending_added ns n (slice_get ns sequence) (next + 1)) a b (records_of ns old)
+            Passes step few within (pending_added ns n (table_in (slice_get ns sequence)) next) (pending_added ns n (table_in (slice_get ns sequence)) (next + 1)) a b (records_of ns old)
+            (records_of ns new)
+        addition_goes {a} {b} old new r m k = subst (λ (p : Pending). Passes step few within p (pending_added ns n (table_in (slice_get ns sequence)) (next + 1)) a b (records_of ns old)
             (records_of ns new)) (sym (added_is x l q))
             (subst (λ (p : Pending). Passes step few within (walk.added (model.component (map tag_of x.tags.items) (presence_of x.presence) (type_at ns n x.place) (components_of
             (λ i. type_at ns n i) (drop (next + 1) t.additions.items)))) p a b (records_of ns old) (records_of ns new)) (sym added_next)
             (absent_passes one carries values r m (kept_one ns old new (Addition false) k)))
 
-        pub addition_refused : {a failed : S} {y : DecodeError} → NoRecord step few asks_addition a failed y → Stuck step few within (pending_added ns n (slice_get ns sequence) next) a failed y
+        pub addition_refused : {a failed : S} {y : DecodeError} → NoRecord step few asks_addition a failed y →
+            Stuck step few within (pending_added ns n (table_in (slice_get ns sequence)) next) a failed y
         addition_refused {a} {failed} {y} u = subst (λ (p : Pending). Stuck step few within p a failed y) (sym (added_is x l q)) (addition_stuck u)
 
         pub absence_refused : {a b : S} (failed : S) (y : DecodeError) → is_required (presence_of x.presence) ≡ true → step a (addition false) b →
-            Stuck step few within (pending_added ns n (slice_get ns sequence) next) a failed y
+            Stuck step few within (pending_added ns n (table_in (slice_get ns sequence)) next) a failed y
         absence_refused {a} failed y r m = subst (λ (p : Pending). Stuck step few within p a failed y) (sym (added_is x l q)) (required_refused one carries failed y r m)
 
       -- ---- behind the root components
       pub stuck_done : {a failed : S} {x : DecodeError} → length t.root.items ≤ next → StuckRoot step few no_component t.is_extensible
-          (components_of (λ i. type_at ns n i) t.additions.items) a failed x → Stuck step few within (pending_root ns n (slice_get ns sequence) next) a failed x
+          (components_of (λ i. type_at ns n i) t.additions.items) a failed x → Stuck step few within (pending_root ns n (table_in (slice_get ns sequence)) next) a failed x
       stuck_done {a} {failed} {x} l u = subst (λ (p : Pending). Stuck step few within p a failed x) (sym (root_done l)) u
 
       pub additions_begun : {a b : S} (old new : List Event) (k : ℕ) {r : Bool} → k ≡ length t.additions.items → r ≡ (t.is_extensible || not (is_empty t.additions.items)) → r ≡ true →
           step a (additions_begin k) b → new ≡ old ++ AdditionsBegin k ∷ [] → Passes step few within
-          (walk.root no_component t.is_extensible (components_of (λ i. type_at ns n i) t.additions.items)) (pending_added ns n (slice_get ns sequence) 0) a b (records_of ns old)
+          (walk.root no_component t.is_extensible (components_of (λ i. type_at ns n i) t.additions.items)) (pending_added ns n (table_in (slice_get ns sequence)) 0) a b (records_of ns old)
           (records_of ns new)
       additions_begun {a} {b} old new k j q z m h =
           let f : ℕ → Schema = λ i. type_at ns n i in
           let c : k ≡ component_count (components_of f t.additions.items) = j ∙ sym (components_counted f t.additions.items) in
-          subst (λ (o : Option TypeNode). Passes step few within (walk.root no_component t.is_extensible (components_of f t.additions.items)) (pending_added ns n o 0) a b (records_of ns old)
-          (records_of ns new)) (sym e)
+          subst (λ (o : Option ComponentTable). Passes step few within (walk.root no_component t.is_extensible (components_of f t.additions.items)) (pending_added ns n o 0) a b
+          (records_of ns old) (records_of ns new)) (sym e)
           (rest_passes one carries values (open_as f t q ∙ z) (subst (λ (k : ℕ). step a (additions_begin k) b) c m)
           (kept_one ns old new (AdditionsBegin k) h ∙ ap (λ k. records_of ns old ++ additions_begin k ∷ []) c))
 
     -- ---- the end of an addition
-    pub inside_goes : (ns : List TypeNode) (n next : ℕ) (o : Option TypeNode) {a b : S} (old new : List Event) → step a addition_ends b → new ≡ old ++ AdditionEnds ∷ [] →
+    pub inside_goes : (ns : List TypeNode) (n next : ℕ) (o : Option ComponentTable) {a b : S} (old new : List Event) → step a addition_ends b → new ≡ old ++ AdditionEnds ∷ [] →
         Passes step few within (pending_inside ns n o next) (pending_added ns n o next) a b (records_of ns old) (records_of ns new)
-    inside_goes ns n next (Some (Sequence t)) old new m k = inside_passes one carries values m (kept_one ns old new AdditionEnds k)
+    inside_goes ns n next (Some t) old new m k = inside_passes one carries values m (kept_one ns old new AdditionEnds k)
     inside_goes ns n next None old new m k = record { done = λ c more r. r; stuck = λ failed x u. tt }
-    inside_goes ns n next (Some node.Boolean) old new m k = record { done = λ c more r. r; stuck = λ failed x u. tt }
-    inside_goes ns n next (Some node.Null) old new m k = record { done = λ c more r. r; stuck = λ failed x u. tt }
-    inside_goes ns n next (Some (node.Integer l)) old new m k = record { done = λ c more r. r; stuck = λ failed x u. tt }
-    inside_goes ns n next (Some (node.Enumerated t)) old new m k = record { done = λ c more r. r; stuck = λ failed x u. tt }
-    inside_goes ns n next (Some (node.BitString z)) old new m k = record { done = λ c more r. r; stuck = λ failed x u. tt }
-    inside_goes ns n next (Some (node.OctetString z)) old new m k = record { done = λ c more r. r; stuck = λ failed x u. tt }
-    inside_goes ns n next (Some (node.CharacterString t)) old new m k = record { done = λ c more r. r; stuck = λ failed x u. tt }
-    inside_goes ns n next (Some node.ObjectIdentifier) old new m k = record { done = λ c more r. r; stuck = λ failed x u. tt }
-    inside_goes ns n next (Some (node.SequenceOf z i)) old new m k = record { done = λ c more r. r; stuck = λ failed x u. tt }
-    inside_goes ns n next (Some (node.SetOf z i)) old new m k = record { done = λ c more r. r; stuck = λ failed x u. tt }
-    inside_goes ns n next (Some (node.Set t)) old new m k = record { done = λ c more r. r; stuck = λ failed x u. tt }
-    inside_goes ns n next (Some (node.Group cs)) old new m k = record { done = λ c more r. r; stuck = λ failed x u. tt }
-    inside_goes ns n next (Some (node.Choice t)) old new m k = record { done = λ c more r. r; stuck = λ failed x u. tt }
 
-  pub inside_refused : (within : S → S → S → Type 0) (ns : List TypeNode) (n next : ℕ) (o : Option TypeNode) {a failed : S} {x : DecodeError} → NoRecord step few asks_addition_end a failed x →
+  pub inside_refused : (within : S → S → S → Type 0) (ns : List TypeNode) (n next : ℕ) (o : Option ComponentTable) {a failed : S} {x : DecodeError} →
+      NoRecord step few asks_addition_end a failed x →
       Stuck step few within (pending_inside ns n o next) a failed x
-  inside_refused within ns n next (Some (Sequence t)) u = inside_stuck u
+  inside_refused within ns n next (Some t) u = inside_stuck u
   inside_refused within ns n next None u = tt
-  inside_refused within ns n next (Some node.Boolean) u = tt
-  inside_refused within ns n next (Some node.Null) u = tt
-  inside_refused within ns n next (Some (node.Integer l)) u = tt
-  inside_refused within ns n next (Some (node.Enumerated t)) u = tt
-  inside_refused within ns n next (Some (node.BitString z)) u = tt
-  inside_refused within ns n next (Some (node.OctetString z)) u = tt
-  inside_refused within ns n next (Some (node.CharacterString t)) u = tt
-  inside_refused within ns n next (Some node.ObjectIdentifier) u = tt
-  inside_refused within ns n next (Some (node.SequenceOf z i)) u = tt
-  inside_refused within ns n next (Some (node.SetOf z i)) u = tt
-  inside_refused within ns n next (Some (node.Set t)) u = tt
-  inside_refused within ns n next (Some (node.Group cs)) u = tt
-  inside_refused within ns n next (Some (node.Choice t)) u = tt

@@ -1,28 +1,34 @@
 -- What the frames of a walk over a table mean, and the records that are kept.
-use Rattle.std.specs.Prelude.{ℕ, suc, ◌+◌, ℤ, Bool, false, cond, List}
-use Rattle.std.specs.Prelude.{[], ◌∷◌, map, drop, Option, Some, None, slice_get}
+use Rattle.std.specs.Prelude.{ℕ, suc, ◌+◌, ℤ, Bool, false, cond, List, [], ◌∷◌, map, drop, Option, Some, None}
+use Rattle.std.specs.Prelude.{slice_get}
 use Rattle.asn1_model.specs.Normal.{is_required}
-use Rattle.asn1_model.specs.Schema.{any_count, any_size}
+use Rattle.asn1_model.specs.Schema.{any_count, any_size, any_alphabet}
 use Rattle.asn1_schema_constraints.specs.Bounds.{members_of}
 use Rattle.asn1_schema_constraints.specs.Terms.{size_of}
 use Rattle.asn1_schema_constraints.specs.declared.bounds.Bounded.TheVariants.{None as Unbounded}
 use Rattle.asn1_schema_laws.specs.Records.{Record, flag, whole, list_begins, further, sequence_begins, presence_bit}
 use Rattle.asn1_schema_laws.specs.Records.{additions_begin, addition, addition_ends, ends, nil}
-use Rattle.asn1_schema_laws.specs.Records.{one_of, bits, octets, identifier}
+use Rattle.asn1_schema_laws.specs.Records.{one_of, bits, octets, characters, identifier, bag_begins, set_begins}
 use Rattle.asn1_table_laws.specs.Walks as walk
-use Rattle.asn1_table_types.specs.Meaning.{bounds_in, held_in, components_of, presence_of, type_at}
+use Rattle.asn1_table_types.specs.Meaning.{bounds_in, held_in, alphabet_in, components_of, presence_of, type_at}
 use Rattle.asn1_table_types.specs.declared.nodes.Component.{Component}
 use Rattle.asn1_table_types.specs.declared.nodes.TypeNode.{TypeNode}
 use Rattle.asn1_table_types.specs.declared.nodes.TypeNode.TheVariants.{Integer, Enumerated, BitString}
-use Rattle.asn1_table_types.specs.declared.nodes.TypeNode.TheVariants.{OctetString, SequenceOf, Sequence}
+use Rattle.asn1_table_types.specs.declared.nodes.TypeNode.TheVariants.{OctetString, SequenceOf, SetOf, Sequence, Set}
+use Rattle.asn1_table_types.specs.declared.nodes.ComponentTable.{ComponentTable}
+use Rattle.asn1_table_types.specs.declared.nodes.TypeNode.TheVariants as node
+use Rattle.asn1_table_walker.specs.Strings.{kind_in, text_of}
+use Rattle.asn1_table_walker.specs.declared.strings.CharacterString.{CharacterString}
 use Rattle.asn1_table_walker.specs.declared.frames.Frame.{Frame}
 use Rattle.asn1_table_walker.specs.declared.frames.Frame.TheVariants.{Members, Root, Added, Inside}
 use Rattle.asn1_table_walker.specs.declared.frames.Turn.{Turn}
 use Rattle.asn1_table_walker.specs.declared.frames.Turn.TheVariants.{Ended, Again, Value}
 use Rattle.asn1_table_walker.specs.declared.tape.Event.{Event}
 use Rattle.asn1_table_walker.specs.declared.tape.Event.TheVariants.{Flag, Number, ListBegins, Further, SequenceBegins}
-use Rattle.asn1_table_walker.specs.declared.tape.Event.TheVariants.{PresenceBit, AdditionsBegin, Addition, AdditionEnds}
-use Rattle.asn1_table_walker.specs.declared.tape.Event.TheVariants.{Ends, Nil, Item, Bits, Octets, Arcs}
+use Rattle.asn1_table_walker.specs.declared.tape.Event.TheVariants.{PresenceBit, AdditionsBegin, Addition}
+use Rattle.asn1_table_walker.specs.declared.tape.Event.TheVariants.{AdditionEnds}
+use Rattle.asn1_table_walker.specs.declared.tape.Event.TheVariants.{Ends, SetBegins, Text, Nil, Item, Bits, Octets}
+use Rattle.asn1_table_walker.specs.declared.tape.Event.TheVariants.{Arcs}
 
 -- ---- records
 
@@ -44,9 +50,16 @@ abbrev pub octets_record : Option TypeNode → List ℕ → Record
 octets_record (Some (OctetString z)) os = octets (size_of z) any_count os
 octets_record o os = octets any_size any_count os
 
+-- The kind of a string is its own.
+abbrev pub text_record : Option TypeNode → CharacterString → Record
+text_record (Some (node.CharacterString t)) x =
+    characters (kind_in x) (size_of t.sizes) (alphabet_in t.alphabet) any_count (text_of x)
+text_record o x = characters (kind_in x) any_size any_alphabet any_count (text_of x)
+
 -- The beginning of a list, by the type at its place; of any other type there it has no size constraint.
 abbrev pub list_record : Option TypeNode → ℕ → Record
 list_record (Some (SequenceOf z i)) n = list_begins (size_of z) (members_of Unbounded) n
+list_record (Some (SetOf z i)) n = bag_begins (size_of z) (members_of Unbounded) n
 list_record o n = list_begins any_size (members_of Unbounded) n
 
 -- The record that an event is, by the table of its type.
@@ -56,11 +69,13 @@ record_of ns Nil = nil
 record_of ns (Item i v) = item_record (slice_get ns i) v
 record_of ns (Bits i bs) = bits_record (slice_get ns i) bs
 record_of ns (Octets i os) = octets_record (slice_get ns i) os.items
+record_of ns (Text i x) = text_record (slice_get ns i) x
 record_of ns (Arcs arcs) = identifier arcs
 record_of ns (Number i v) = number_record (slice_get ns i) v
 record_of ns (ListBegins i n) = list_record (slice_get ns i) n
 record_of ns (Further b) = further b
 record_of ns (SequenceBegins e n) = sequence_begins e n
+record_of ns (SetBegins e n) = set_begins e n
 record_of ns (PresenceBit b) = presence_bit b
 record_of ns (AdditionsBegin n) = additions_begin n
 record_of ns (Addition b) = addition b
@@ -77,33 +92,43 @@ abbrev pub optional_in : List Component → ℕ
 optional_in [] = 0
 optional_in (c ∷ cs) = cond (is_required (presence_of c.presence)) (optional_in cs) (suc (optional_in cs))
 
-abbrev pub pending_members : List TypeNode → ℕ → Option TypeNode → ℕ → ℕ → walk.Pending
-pending_members ns n (Some (SequenceOf z i)) begins count =
-    walk.members (size_of z) (members_of Unbounded) (type_at ns n i) begins count
-pending_members ns n o begins count = walk.lost
+-- The place of the members' type in a SEQUENCE OF or SET OF.
+abbrev pub members_in : Option TypeNode → Option ℕ
+members_in (Some (SequenceOf z i)) = Some i
+members_in (Some (SetOf z i)) = Some i
+members_in o = None
 
-abbrev pub pending_root : List TypeNode → ℕ → Option TypeNode → ℕ → walk.Pending
-pending_root ns n (Some (Sequence t)) i =
+-- The components of a SEQUENCE or SET.
+abbrev pub table_in : Option TypeNode → Option ComponentTable
+table_in (Some (Sequence t)) = Some t
+table_in (Some (Set t)) = Some t
+table_in o = None
+
+abbrev pub pending_members : List TypeNode → ℕ → (ℕ → Record) → Option ℕ → ℕ → ℕ → walk.Pending
+pending_members ns n f (Some i) begins count = walk.members f (members_of Unbounded) (type_at ns n i) begins count
+pending_members ns n f None begins count = walk.lost
+
+abbrev pub pending_root : List TypeNode → ℕ → Option ComponentTable → ℕ → walk.Pending
+pending_root ns n (Some t) i =
     walk.root (components_of (λ j. type_at ns n j) (drop i t.root.items)) t.is_extensible
     (components_of (λ j. type_at ns n j) t.additions.items)
-pending_root ns n o i = walk.lost
+pending_root ns n None i = walk.lost
 
-abbrev pub pending_added : List TypeNode → ℕ → Option TypeNode → ℕ → walk.Pending
-pending_added ns n (Some (Sequence t)) i =
-    walk.added (components_of (λ j. type_at ns n j) (drop i t.additions.items))
-pending_added ns n o i = walk.lost
+abbrev pub pending_added : List TypeNode → ℕ → Option ComponentTable → ℕ → walk.Pending
+pending_added ns n (Some t) i = walk.added (components_of (λ j. type_at ns n j) (drop i t.additions.items))
+pending_added ns n None i = walk.lost
 
-abbrev pub pending_inside : List TypeNode → ℕ → Option TypeNode → ℕ → walk.Pending
-pending_inside ns n (Some (Sequence t)) i =
-    walk.inside (components_of (λ j. type_at ns n j) (drop i t.additions.items))
-pending_inside ns n o i = walk.lost
+abbrev pub pending_inside : List TypeNode → ℕ → Option ComponentTable → ℕ → walk.Pending
+pending_inside ns n (Some t) i = walk.inside (components_of (λ j. type_at ns n j) (drop i t.additions.items))
+pending_inside ns n None i = walk.lost
 
 -- What a frame means where n levels are left inside of it.
 abbrev pub pending_of : List TypeNode → ℕ → Frame → walk.Pending
-pending_of ns n (Members list begins count) = pending_members ns n (slice_get ns list) begins count
-pending_of ns n (Root i next) = pending_root ns n (slice_get ns i) next
-pending_of ns n (Added i next) = pending_added ns n (slice_get ns i) next
-pending_of ns n (Inside i next) = pending_inside ns n (slice_get ns i) next
+pending_of ns n (Members list begins count) =
+    pending_members ns n (λ k. list_record (slice_get ns list) k) (members_in (slice_get ns list)) begins count
+pending_of ns n (Root i next) = pending_root ns n (table_in (slice_get ns i)) next
+pending_of ns n (Added i next) = pending_added ns n (table_in (slice_get ns i)) next
+pending_of ns n (Inside i next) = pending_inside ns n (table_in (slice_get ns i)) next
 
 abbrev pub pending_in : List TypeNode → ℕ → Option Frame → Option walk.Pending
 pending_in ns n None = None

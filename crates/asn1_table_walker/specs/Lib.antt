@@ -1,4 +1,5 @@
 pub mod Served
+pub mod Strings
 pub mod Frames
 pub mod Replays
 pub mod Fronts

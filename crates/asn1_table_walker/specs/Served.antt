@@ -16,7 +16,7 @@ has_no_default (Default tape) = false
 abbrev pub have_no_default : List Component → Bool
 have_no_default cs = list_all (λ c. has_no_default c.presence) cs
 
--- A kind is served: each but character strings, SET OF, SET, CHOICE, groups of additions, and SEQUENCE with a default.
+-- A kind is served: each but CHOICE, groups of additions, and SEQUENCE or SET with a default.
 abbrev pub is_served : TypeNode → Bool
 is_served node.Boolean = true
 is_served node.Null = true
@@ -24,12 +24,12 @@ is_served (node.Integer l) = true
 is_served (node.Enumerated t) = true
 is_served (node.BitString z) = true
 is_served (node.OctetString z) = true
-is_served (node.CharacterString t) = false
+is_served (node.CharacterString t) = true
 is_served node.ObjectIdentifier = true
 is_served (node.SequenceOf z i) = true
-is_served (node.SetOf z i) = false
+is_served (node.SetOf z i) = true
 is_served (node.Sequence t) = have_no_default t.root.items && have_no_default t.additions.items
-is_served (node.Set t) = false
+is_served (node.Set t) = have_no_default t.root.items && have_no_default t.additions.items
 is_served (node.Group cs) = false
 is_served (node.Choice t) = false
 

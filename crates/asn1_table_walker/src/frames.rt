@@ -1,6 +1,7 @@
-//! What is still to come of the lists and sequences that have begun.
+//! What is still to come of the lists, sequences and sets that have begun.
 
-/// What is still to come of a list or sequence that has begun. Types are named by their places in the table.
+/// What is still to come of a SEQUENCE OF, SET OF, SEQUENCE or SET that has begun. Types are named by their places in
+/// the table.
 #[derive(Clone, Copy, Debug)]
 pub enum Frame {
     /// Members of a list, and its end.

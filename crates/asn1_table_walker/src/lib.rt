@@ -10,6 +10,7 @@ mod replaying;
 mod scalars;
 mod sequences;
 mod served;
+mod strings;
 mod tape;
 mod terms;
 
@@ -17,4 +18,5 @@ pub use frames::Frame;
 pub use reading::read_onto;
 pub use replaying::replay;
 pub use served::{ServedTypes, Unserved};
+pub use strings::CharacterString;
 pub use tape::Event;

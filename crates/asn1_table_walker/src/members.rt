@@ -1,4 +1,4 @@
-//! SEQUENCE OF (X.680 26): its beginning, and its elements one after another.
+//! SEQUENCE OF and SET OF (X.680 26 and 28): its beginning, and its elements one after another.
 #![tactic(auto, using(std::proofs::lemmas::Grind::common_steps))]
 
 ghost use Rattle.std.specs.Prelude.{◌≡◌, ◌+◌, ◌≤◌, ℕ, List, Some, Err, IfOk, IfErr, OnOk, OnErr, vec_len, slice_get};
@@ -6,20 +6,19 @@ ghost use Rattle.asn1_schema_errors.specs.Calls.{DecoderCall, OneLevelLess};
 ghost use Rattle.asn1_table_laws.specs.Walks.{NoValue, Begun, Stuck, Turns};
 ghost use Rattle.asn1_table_types.specs.Meaning.{type_at};
 ghost use Rattle.asn1_table_types.specs.declared.nodes.TypeNode.{TypeNode as Node};
-ghost use Rattle.asn1_table_types.specs.declared.nodes.TypeNode.TheVariants.{SequenceOf as ListOf};
+ghost use Rattle.asn1_table_types.specs.declared.nodes.TypeNode.TheVariants.{SequenceOf as ListOf, SetOf as BagOf};
 ghost use Rattle.asn1_table_walker.specs.Frames.{records_of, pending_of, turn_of, levels_closed, keeps};
 
 use crate::frames::{Frame, Turn};
 use crate::served::ServedTypes;
 use crate::tape::{Event, keep, set_count};
-use crate::terms::size_constraints;
+use crate::terms::{members_at, size_constraints};
 use asn1_schema_constraints::{Bounded, Sizes};
 use asn1_schema_decode::Decoder;
 use asn1_schema_errors::DecodeError;
 use asn1_schema_tags::Tag;
-use asn1_table_types::TypeNode;
 
-/// A list of these sizes begins, of the type at this index.
+/// A SEQUENCE OF of these sizes begins, of the type at this index.
 pub fn begin_list<D: Decoder>(
     decoder: &mut D,
     sizes: Sizes,
@@ -38,6 +37,34 @@ pub fn begin_list<D: Decoder>(
 {
     let constraints = size_constraints(sizes);
     decoder.begin_list(Tag::SEQUENCE, &constraints, Bounded::None)?;
+    let begins = tape.len();
+    keep(decoder, tape, Event::ListBegins(place, 0))?;
+    Ok(Frame::Members {
+        list: place,
+        begins,
+        count: 0,
+    })
+}
+
+/// A SET OF of these sizes begins, of the type at this index.
+pub fn begin_bag<D: Decoder>(
+    decoder: &mut D,
+    sizes: Sizes,
+    place: usize,
+    tape: &mut Vec<Event>,
+) -> Result<Frame, DecodeError>
+    ensures ok { IfOk result (λ f. (ns : List Node) (i : ℕ) → slice_get ns place ≡ Some (BagOf sizes i)
+        → Begun D.step D.too_few D.too_few_members (type_at ns (D.levels decoder.old) place)
+        (pending_of ns (D.levels decoder.new) f) decoder.old decoder.new
+        (records_of ns tape.old.items) (records_of ns tape.new.items)) }
+    ensures only { IfErr result (λ x. (ns : List Node) (i : ℕ) → slice_get ns place ≡ Some (BagOf sizes i)
+        → NoValue D.step D.too_few (type_at ns (D.levels decoder.old) place) decoder.old decoder.new x) }
+    ensures going { OnOk result (D.has_failed decoder.new → ⊥) }
+    ensures call { DecoderCall D.has_failed (OneLevelLess D.levels) decoder.old decoder.new result }
+    ensures grows { OnOk result (vec_len tape.old + 1 ≤ vec_len tape.new) }
+{
+    let constraints = size_constraints(sizes);
+    decoder.begin_bag(Tag::SET, &constraints, Bounded::None)?;
     let begins = tape.len();
     keep(decoder, tape, Event::ListBegins(place, 0))?;
     Ok(Frame::Members {
@@ -71,7 +98,7 @@ pub fn turn_members<D: Decoder>(
     ensures after { result ≡ Err DecodeError.AlreadyFailed → D.has_failed decoder.old }
     ensures grows { IfOk result (λ t. vec_len tape.old + keeps t ≤ vec_len tape.new) }
 {
-    let Some(TypeNode::SequenceOf(_sizes, members)) = types.node(list) else {
+    let Some(members) = members_at(types, list) else {
         return Err(decoder.refuse(DecodeError::TypeNotExtensible));
     };
     if decoder.get_further()? {
@@ -84,7 +111,7 @@ pub fn turn_members<D: Decoder>(
             begins,
             count: count + 1,
         };
-        return Ok(Turn::Value(rest, *members));
+        return Ok(Turn::Value(rest, members));
     }
     keep(decoder, tape, Event::Further(false))?;
     decoder.end()?;

@@ -8,12 +8,13 @@ ghost use Rattle.asn1_table_types.specs.Meaning.{type_at};
 ghost use Rattle.asn1_table_walker.specs.Frames.{records_of, pending_in, levels_in};
 
 use crate::frames::Frame;
-use crate::members::begin_list;
+use crate::members::{begin_bag, begin_list};
 use crate::scalars::{
     read_arcs, read_bits, read_flag, read_item, read_nil, read_number, read_octets,
 };
-use crate::sequences::begin_sequence;
+use crate::sequences::{begin_sequence, begin_set};
 use crate::served::ServedTypes;
+use crate::strings::read_text;
 use crate::tape::Event;
 use asn1_schema_decode::Decoder;
 use asn1_schema_errors::DecodeError;
@@ -79,9 +80,18 @@ pub fn open<D: Decoder>(
             let frame = begin_sequence(decoder, table, place, tape)?;
             Ok(Some(frame))
         }
-        Some(TypeNode::CharacterString(_)) => Err(refuse_any(decoder)),
-        Some(TypeNode::SetOf(_, _)) => Err(refuse_any(decoder)),
-        Some(TypeNode::Set(_)) => Err(refuse_any(decoder)),
+        Some(TypeNode::CharacterString(table)) => {
+            read_text(alloc, decoder, table, place, tape)?;
+            Ok(None)
+        }
+        Some(TypeNode::SetOf(sizes, _members)) => {
+            let frame = begin_bag(decoder, *sizes, place, tape)?;
+            Ok(Some(frame))
+        }
+        Some(TypeNode::Set(table)) => {
+            let frame = begin_set(decoder, table, place, tape)?;
+            Ok(Some(frame))
+        }
         Some(TypeNode::Group(_)) => Err(refuse_any(decoder)),
         Some(TypeNode::Choice(_)) => Err(refuse_any(decoder)),
     }

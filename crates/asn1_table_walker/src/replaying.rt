@@ -11,15 +11,17 @@ ghost use Rattle.asn1_table_walker.specs.Frames.{bits_record, octets_record, lis
 ghost use Rattle.asn1_table_walker.specs.Replays.{CannotChain};
 
 use crate::served::ServedTypes;
+use crate::strings::replay_text;
 use crate::tape::Event;
 use crate::terms::{
-    bit_sizes_at, items_at, limits_at, number_constraints, octet_sizes_at, size_constraints,
-    sizes_at,
+    any_sizes, bit_sizes_at, items_at, limits_at, number_constraints, octet_sizes_at,
+    size_constraints,
 };
 use asn1_schema_constraints::Bounded;
 use asn1_schema_encode::Encoder;
 use asn1_schema_errors::EncodeError;
 use asn1_schema_tags::{Identifier, Tag};
+use asn1_table_types::TypeNode;
 use asn1_values_bit_strings::BitString;
 use asn1_values_identifiers::ObjectIdentifier;
 use asn1_values_integers::Integer;
@@ -62,12 +64,18 @@ fn replay_one<E: Encoder>(
         Event::Item(place, item) => replay_item(encoder, types, *place, *item),
         Event::Bits(place, bits) => replay_bits(encoder, types, *place, bits),
         Event::Octets(place, octets) => replay_octets(encoder, types, *place, octets.as_slice()),
+        Event::Text(place, text) => replay_text(encoder, types, *place, text),
         Event::Arcs(arcs) => replay_arcs(encoder, arcs),
         Event::Number(place, value) => replay_number(encoder, types, *place, value),
         Event::ListBegins(place, count) => replay_list(encoder, types, *place, *count),
         Event::Further(more) => encoder.encode_further(*more),
         Event::SequenceBegins(is_extensible, optional) => encoder.begin_sequence(
             Tag::SEQUENCE,
+            *is_extensible,
+            *optional,
+        ),
+        Event::SetBegins(is_extensible, optional) => encoder.begin_set(
+            Tag::SET,
             *is_extensible,
             *optional,
         ),
@@ -112,8 +120,7 @@ fn replay_item<E: Encoder>(
     ensures call { EncoderCall E.has_failed E.front encoder.old encoder.new result }
 {
     let items = items_at(types, place);
-    encoder.encode_item_of(Tag::ENUMERATED, &items, &item, Identifier::ENUMERATED)?;
-    Ok(())
+    encoder.encode_item_of(Tag::ENUMERATED, &items, &item, Identifier::ENUMERATED)
 }
 
 // Bits, whose type is at a place.
@@ -136,8 +143,7 @@ fn replay_bits<E: Encoder>(
         Bounded::None,
         bits.as_bitslice(),
         Identifier::BIT_STRING,
-    )?;
-    Ok(())
+    )
 }
 
 // Octets, whose type is at a place.
@@ -160,8 +166,7 @@ fn replay_octets<E: Encoder>(
         Bounded::None,
         octets,
         Identifier::OCTET_STRING,
-    )?;
-    Ok(())
+    )
 }
 
 // The arcs of an object identifier.
@@ -174,8 +179,7 @@ fn replay_arcs<E: Encoder>(encoder: &mut E, arcs: &ObjectIdentifier) -> Result<(
         Tag::OBJECT_IDENTIFIER,
         arcs.as_oid(),
         Identifier::OBJECT_IDENTIFIER,
-    )?;
-    Ok(())
+    )
 }
 
 // The beginning of a list of the type at this index.
@@ -191,7 +195,21 @@ fn replay_list<E: Encoder>(
         (Refused E.step (list_record (slice_get types.now.types.nodes.items place) count) encoder.old) }
     ensures call { EncoderCall E.has_failed E.front encoder.old encoder.new result }
 {
-    let constraints = size_constraints(sizes_at(types, place));
-    encoder.begin_list(Tag::SEQUENCE, &constraints, Bounded::None, count)?;
-    Ok(())
+    match types.node(place) {
+        Some(TypeNode::SequenceOf(sizes, _members)) => {
+            let constraints = size_constraints(*sizes);
+            encoder.begin_list(Tag::SEQUENCE, &constraints, Bounded::None, count)?;
+            Ok(())
+        }
+        Some(TypeNode::SetOf(sizes, _members)) => {
+            let constraints = size_constraints(*sizes);
+            encoder.begin_bag(Tag::SET, &constraints, Bounded::None, count)?;
+            Ok(())
+        }
+        _ => {
+            let constraints = size_constraints(any_sizes());
+            encoder.begin_list(Tag::SEQUENCE, &constraints, Bounded::None, count)?;
+            Ok(())
+        }
+    }
 }

@@ -1,4 +1,4 @@
-//! SEQUENCE (X.680 25): its beginning, and its components one after another.
+//! SEQUENCE and SET (X.680 25 and 27): its beginning, and its components one after another.
 #![tactic(auto, using(asn1_table_types::proofs::Lists::empty_length, std::proofs::lemmas::Grind::common_steps))]
 
 ghost use Rattle.std.specs.Prelude.{◌≡◌, ◌+◌, ◌≤◌, List, Some, Err, IfOk, IfErr, OnOk, OnErr, vec_len, slice_get};
@@ -10,19 +10,20 @@ ghost use Rattle.asn1_table_laws.specs.Walks as walk;
 ghost use Rattle.asn1_table_laws.specs.Walks.{NoValue, Begun, Stuck, Turns, EndsAdded, StuckRoot, StuckAdded};
 ghost use Rattle.asn1_table_types.specs.Meaning.{type_at, components_of};
 ghost use Rattle.asn1_table_types.specs.declared.nodes.TypeNode.{TypeNode as Node};
-ghost use Rattle.asn1_table_types.specs.declared.nodes.TypeNode.TheVariants.{Sequence as SequenceWith};
-ghost use Rattle.asn1_table_walker.specs.Frames.{records_of, pending_of, turn_of, levels_closed, keeps};
+ghost use Rattle.asn1_table_types.specs.declared.nodes.TypeNode.TheVariants.{Sequence as SequenceWith, Set as SetWith};
+ghost use Rattle.asn1_table_walker.specs.Frames.{records_of, pending_of, table_in, turn_of, levels_closed};
+ghost use Rattle.asn1_table_walker.specs.Frames.{keeps};
 
 use crate::frames::{Frame, Turn};
 use crate::served::ServedTypes;
 use crate::tape::{Event, keep};
-use crate::terms::{count_optional, is_always_there};
+use crate::terms::{count_optional, is_always_there, table_at};
 use asn1_schema_decode::Decoder;
 use asn1_schema_errors::DecodeError;
 use asn1_schema_tags::Tag;
-use asn1_table_types::{ComponentTable, TypeNode};
+use asn1_table_types::ComponentTable;
 
-/// A sequence of these components begins, of the type at this index.
+/// A SEQUENCE of these components begins, of the type at this index.
 pub fn begin_sequence<D: Decoder>(
     decoder: &mut D,
     table: &ComponentTable,
@@ -52,6 +53,36 @@ pub fn begin_sequence<D: Decoder>(
     })
 }
 
+/// A SET of these components begins, of the type at this index.
+pub fn begin_set<D: Decoder>(
+    decoder: &mut D,
+    table: &ComponentTable,
+    place: usize,
+    tape: &mut Vec<Event>,
+) -> Result<Frame, DecodeError>
+    ensures ok { IfOk result (λ f. (ns : List Node) → slice_get ns place ≡ Some (SetWith table.now)
+        → Begun D.step D.too_few D.too_few_members (type_at ns (D.levels decoder.old) place)
+        (pending_of ns (D.levels decoder.new) f) decoder.old decoder.new
+        (records_of ns tape.old.items) (records_of ns tape.new.items)) }
+    ensures only { IfErr result (λ x. (ns : List Node) → slice_get ns place ≡ Some (SetWith table.now)
+        → NoValue D.step D.too_few (type_at ns (D.levels decoder.old) place) decoder.old decoder.new x) }
+    ensures going { OnOk result (D.has_failed decoder.new → ⊥) }
+    ensures call { DecoderCall D.has_failed (OneLevelLess D.levels) decoder.old decoder.new result }
+    ensures grows { OnOk result (vec_len tape.old + 1 ≤ vec_len tape.new) }
+{
+    let optional = count_optional(table.root.as_slice());
+    decoder.begin_set(Tag::SET, table.is_extensible, optional)?;
+    keep(
+        decoder,
+        tape,
+        Event::SetBegins(table.is_extensible, optional),
+    )?;
+    Ok(Frame::Root {
+        sequence: place,
+        next: 0,
+    })
+}
+
 /// The next root component of a sequence comes, or what follows the root components.
 pub fn turn_root<D: Decoder>(
     decoder: &mut D,
@@ -74,7 +105,7 @@ pub fn turn_root<D: Decoder>(
     ensures after { result ≡ Err DecodeError.AlreadyFailed → D.has_failed decoder.old }
     ensures grows { IfOk result (λ t. vec_len tape.old + keeps t ≤ vec_len tape.new) }
 {
-    let Some(TypeNode::Sequence(table)) = types.node(sequence) else {
+    let Some(table) = table_at(types, sequence) else {
         return Err(decoder.refuse(DecodeError::TypeNotExtensible));
     };
     let Some(component) = table.root.as_slice().get(next) else {
@@ -102,7 +133,7 @@ fn behind_root<D: Decoder>(
     sequence: usize,
     tape: &mut Vec<Event>,
 ) -> Result<Turn, DecodeError>
-    ensures ok { IfOk result (λ t. (ns : List Node) → slice_get ns sequence ≡ Some (SequenceWith table.now)
+    ensures ok { IfOk result (λ t. (ns : List Node) → table_in (slice_get ns sequence) ≡ Some table.now
         → Turns D.step D.too_few D.too_few_members (walk.root no_component table.now.is_extensible
         (components_of (λ i. type_at ns (D.levels decoder.old) i) table.now.additions.items))
         (turn_of ns (D.levels decoder.old) t) decoder.old decoder.new
@@ -171,7 +202,7 @@ pub fn turn_added<D: Decoder>(
     ensures after { result ≡ Err DecodeError.AlreadyFailed → D.has_failed decoder.old }
     ensures grows { IfOk result (λ t. vec_len tape.old + keeps t ≤ vec_len tape.new) }
 {
-    let Some(TypeNode::Sequence(table)) = types.node(sequence) else {
+    let Some(table) = table_at(types, sequence) else {
         return Err(decoder.refuse(DecodeError::TypeNotExtensible));
     };
     let Some(component) = table.additions.as_slice().get(next) else {

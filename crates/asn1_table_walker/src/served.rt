@@ -6,8 +6,8 @@ ghost use Rattle.asn1_table_walker.specs.Served.{has_no_default, have_no_default
 use asn1_table_types::{Component, Presence, TypeNode, Types};
 use thiserror::Error;
 
-/// A table of types whose kinds are all served: each but character strings, SET OF, SET, CHOICE, groups of additions,
-/// and SEQUENCE with a default.
+/// A table of types whose kinds are all served: each but CHOICE, groups of additions, and SEQUENCE or SET with a
+/// default.
 #[derive(Drop)]
 pub struct ServedTypes {
     types: Types,
@@ -62,18 +62,15 @@ fn is_served_node(node: &TypeNode) -> bool
     ensures { result ≡ is_served node.now }
 {
     match node {
-        TypeNode::Boolean => true,
-        TypeNode::Null => true,
-        TypeNode::Integer(_) => true,
-        TypeNode::Enumerated(_) => true,
-        TypeNode::BitString(_) => true,
-        TypeNode::OctetString(_) => true,
-        TypeNode::ObjectIdentifier => true,
-        TypeNode::SequenceOf(_, _) => true,
         TypeNode::Sequence(table) => {
             lack_defaults(table.root.as_slice()) && lack_defaults(table.additions.as_slice())
         }
-        _ => false,
+        TypeNode::Set(table) => {
+            lack_defaults(table.root.as_slice()) && lack_defaults(table.additions.as_slice())
+        }
+        TypeNode::Choice(_) => false,
+        TypeNode::Group(_) => false,
+        _ => true,
     }
 }
 

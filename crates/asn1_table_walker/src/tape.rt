@@ -3,6 +3,7 @@
 
 ghost use Rattle.std.specs.Prelude.{◌≡◌, ◌+◌, ◌++◌, [], ◌∷◌, OnOk, OnErr, IfErr, vec_len, slice_set as set};
 
+use crate::strings::CharacterString;
 use asn1_schema_decode::Decoder;
 use asn1_schema_errors::DecodeError;
 use asn1_values_bit_strings::BitString;
@@ -24,14 +25,18 @@ pub enum Event {
     Bits(usize, BitString),
     /// OCTET STRING: the place of its type in the table, and the octets.
     Octets(usize, Vec<u8>),
+    /// A restricted character string: the place of its type in the table, and the string.
+    Text(usize, CharacterString),
     /// OBJECT IDENTIFIER: the arcs.
     Arcs(ObjectIdentifier),
-    /// SEQUENCE OF begins: the index of its type in the table, and how many elements it has.
+    /// SEQUENCE OF or SET OF begins: the index of its type in the table, and how many elements it has.
     ListBegins(usize, usize),
     /// Whether another element follows.
     Further(bool),
     /// SEQUENCE begins: whether it has an extension marker, and how many root components may be absent.
     SequenceBegins(bool, usize),
+    /// SET begins: the same.
+    SetBegins(bool, usize),
     /// Whether a root component is there.
     PresenceBit(bool),
     /// The additions begin: how many there are.
@@ -40,7 +45,7 @@ pub enum Event {
     Addition(bool),
     /// The end of an addition.
     AdditionEnds,
-    /// The end of a list or sequence.
+    /// The end of a list, sequence or set.
     Ends,
 }
 

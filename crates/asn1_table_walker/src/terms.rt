@@ -2,19 +2,24 @@
 #![tactic(auto, using(std::proofs::lemmas::Grind::common_steps))]
 
 ghost use Rattle.std.specs.Prelude.{◌≡◌, ℕ, ℤ, Bool, List, slice_get};
+ghost use Rattle.std.specs.Option.{option_copied};
 ghost use Rattle.asn1_model.specs.Normal.{is_required};
 ghost use Rattle.asn1_model.specs.Schema.{any_number, any_count, any_size};
-ghost use Rattle.asn1_schema_constraints.specs.Terms.{bounds_of, held_of, sizes_of, size_of};
-ghost use Rattle.asn1_table_types.specs.Meaning.{bounds_in, held_in, presence_of};
-ghost use Rattle.asn1_schema_constraints.specs.Bounds.{members_of};
-ghost use Rattle.asn1_schema_laws.specs.Records.{whole, one_of, bits, octets, list_begins};
+ghost use Rattle.asn1_schema_constraints.specs.Terms.{bounds_of, held_of, sizes_of, size_of, alphabet_of};
+ghost use Rattle.asn1_table_types.specs.Meaning.{bounds_in, held_in, alphabet_in, presence_of};
+ghost use Rattle.asn1_schema_laws.specs.Records.{whole, one_of, bits, octets};
 ghost use Rattle.asn1_table_walker.specs.Frames.{optional_in, number_record, item_record, bits_record};
-ghost use Rattle.asn1_table_walker.specs.Frames.{octets_record, list_record};
+ghost use Rattle.asn1_schema_types.specs.Told.{characters_under};
+ghost use Rattle.asn1_table_walker.specs.Strings.{kind_in, text_of};
+ghost use Rattle.asn1_table_walker.specs.declared.strings.CharacterString.{CharacterString as Text};
+ghost use Rattle.asn1_table_walker.specs.Frames.{octets_record, text_record, members_in, table_in};
 
 use crate::served::ServedTypes;
-use asn1_schema_constraints::{Bounded, Constraints, Extensible, Size, Sizes, Value};
+use asn1_schema_constraints::{
+    Bounded, Constraints, Extensible, PermittedAlphabet, Size, Sizes, Value,
+};
 use asn1_schema_tags::ItemTables;
-use asn1_table_types::{Component, NumberLimits, Presence, TypeNode};
+use asn1_table_types::{Component, ComponentTable, NumberLimits, Presence, StringTable, TypeNode};
 
 /// The value constraint of an INTEGER (X.680 51.4 and 52).
 pub fn number_constraints(limits: &Option<NumberLimits>) -> Constraints<'static>
@@ -82,14 +87,25 @@ pub fn limits_at(types: &ServedTypes, place: usize) -> Option<NumberLimits>
     }
 }
 
-/// The size constraint of the SEQUENCE OF at this index; none if another type is there.
-pub fn sizes_at(types: &ServedTypes, place: usize) -> Sizes
-    ensures { (n : ℕ) → list_record (slice_get types.now.types.nodes.items place) n
-        ≡ list_begins (size_of result) (members_of Bounded.None) n }
+/// The index of the elements' type of the SEQUENCE OF or SET OF at this index, if one is there.
+pub fn members_at(types: &ServedTypes, place: usize) -> Option<usize>
+    ensures { result ≡ members_in (slice_get types.now.types.nodes.items place) }
 {
     match types.node(place) {
-        Some(TypeNode::SequenceOf(sizes, _)) => *sizes,
-        _ => any_sizes(),
+        Some(TypeNode::SequenceOf(_sizes, members)) => Some(*members),
+        Some(TypeNode::SetOf(_sizes, members)) => Some(*members),
+        _ => None,
+    }
+}
+
+/// The components of the SEQUENCE or SET at a place, if one is there.
+pub fn table_at(types: &ServedTypes, place: usize) -> Option<&ComponentTable>
+    ensures { option_copied result ≡ table_in (slice_get types.now.types.nodes.items place) }
+{
+    match types.node(place) {
+        Some(TypeNode::Sequence(table)) => Some(table),
+        Some(TypeNode::Set(table)) => Some(table),
+        _ => None,
     }
 }
 
@@ -130,12 +146,49 @@ pub fn octet_sizes_at(types: &ServedTypes, place: usize) -> Sizes
     }
 }
 
-// Any size.
-fn any_sizes() -> Sizes
+/// Any size.
+pub fn any_sizes() -> Sizes
     ensures { size_of result ≡ any_size }
 {
     Sizes {
         root: Bounded::None,
         is_extensible: false,
+    }
+}
+
+/// The size and alphabet constraints of a character string (X.680 51.5, 51.7 and 52).
+pub fn text_constraints(table: &StringTable) -> Constraints<'_>
+    ensures size { sizes_of result.size ≡ size_of table.now.sizes }
+    ensures alphabet { alphabet_of result.permitted_alphabet ≡ alphabet_in table.now.alphabet }
+{
+    let permitted_alphabet = match &table.alphabet {
+        None => None,
+        Some(alphabet) => Some(Extensible::new(PermittedAlphabet::new(
+            alphabet.characters.as_slice(),
+        )).set_extensible(alphabet.is_extensible)),
+    };
+    Constraints {
+        value: None,
+        size: Some(Extensible::new(Size::new(table.sizes.root)).set_extensible(
+            table.sizes.is_extensible,
+        )),
+        permitted_alphabet,
+        is_extensible: false,
+    }
+}
+
+/// The constraints of the character string at a place; none where another type is there.
+pub fn text_constraints_at(types: &ServedTypes, place: usize) -> Constraints<'_>
+    ensures { (x : Text) → text_record (slice_get types.now.types.nodes.items place) x
+        ≡ characters_under (kind_in x) result (text_of x) }
+{
+    match types.node(place) {
+        Some(TypeNode::CharacterString(table)) => text_constraints(table),
+        _ => Constraints {
+            value: None,
+            size: None,
+            permitted_alphabet: None,
+            is_extensible: false,
+        },
     }
 }

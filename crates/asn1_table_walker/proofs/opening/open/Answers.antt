@@ -10,6 +10,12 @@ returns-in_err-read_number-in-Some-Integer-clause-only g c =
     raised _ _ _ c.from_residual-in_err-read_number-in-Some-Integer.ensures.1 (refused_at c.args.types.now.types.nodes.items (g.D.Decoder.levels c.args.decoder.now) c.args.place _ e
     (c.in_err-read_number-in-Some-Integer.ensures.only c.args.types.now.types.nodes.items))
 
+pub returns-in_err-read_text-in-Some-CharacterString-clause-only : goal.returns-in_err-read_text-in-Some-CharacterString-clause-only
+returns-in_err-read_text-in-Some-CharacterString-clause-only g c =
+    let e = sym c.node.ensures ∙ ap option_copied c.in-Some-CharacterString.is ∙ ap Some c.in-Some-CharacterString.field-0-is in
+    raised _ _ _ c.from_residual-in_err-read_text-in-Some-CharacterString.ensures.1 (refused_at c.args.types.now.types.nodes.items (g.D.Decoder.levels c.args.decoder.now) c.args.place _ e
+    (c.in_err-read_text-in-Some-CharacterString.ensures.only c.args.types.now.types.nodes.items))
+
 pub returns-in_err-read_bits-in-Some-BitString-clause-only : goal.returns-in_err-read_bits-in-Some-BitString-clause-only
 returns-in_err-read_bits-in-Some-BitString-clause-only g c =
     let e = sym c.node.ensures ∙ ap option_copied c.in-Some-BitString.is ∙ ap Some c.in-Some-BitString.field-0-is in
@@ -26,21 +32,6 @@ pub returns-in-None-clause-only : goal.returns-in-None-clause-only
 returns-in-None-clause-only g c =
     let e = sym c.node.ensures ∙ ap option_copied c.in-None.is in
     refused_past c.args.types.now.types.nodes.items (g.D.Decoder.levels c.args.decoder.now) c.args.place e
-
-pub returns-in-Some-CharacterString-clause-only : goal.returns-in-Some-CharacterString-clause-only
-returns-in-Some-CharacterString-clause-only g c =
-    let e = sym c.node.ensures ∙ ap option_copied c.in-Some-CharacterString.is ∙ ap Some c.in-Some-CharacterString.field-0-is in
-    not_served c.args.types.now.types.nodes.items (g.D.Decoder.levels c.args.decoder.now) c.args.place _ c.args.types.now.served e refl
-
-pub returns-in-Some-SetOf-clause-only : goal.returns-in-Some-SetOf-clause-only
-returns-in-Some-SetOf-clause-only g c =
-    let e = sym c.node.ensures ∙ ap option_copied c.in-Some-SetOf.is ∙ ap Some c.in-Some-SetOf.field-0-is in
-    not_served c.args.types.now.types.nodes.items (g.D.Decoder.levels c.args.decoder.now) c.args.place _ c.args.types.now.served e refl
-
-pub returns-in-Some-Set-clause-only : goal.returns-in-Some-Set-clause-only
-returns-in-Some-Set-clause-only g c =
-    let e = sym c.node.ensures ∙ ap option_copied c.in-Some-Set.is ∙ ap Some c.in-Some-Set.field-0-is in
-    not_served c.args.types.now.types.nodes.items (g.D.Decoder.levels c.args.decoder.now) c.args.place _ c.args.types.now.served e refl
 
 pub returns-in-Some-Group-clause-only : goal.returns-in-Some-Group-clause-only
 returns-in-Some-Group-clause-only g c =

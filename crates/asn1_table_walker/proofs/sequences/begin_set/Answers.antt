@@ -1,0 +1,14 @@
+use Rattle.std.proofs.Common.{◌∙◌, ap}
+use Rattle.asn1_schema_laws.proofs.Joined.{raised}
+use Rattle.asn1_table_walker.specs.Frames.{optional_in}
+use Rattle.asn1_table_walker.proofs.SequenceTurns.{set_refused, set_opened}
+use Rattle.asn1_table_walker.proofs.sequences.begin_set.Goals as goal
+
+pub returns-in_err-begin_set-clause-only : goal.returns-in_err-begin_set-clause-only
+returns-in_err-begin_set-clause-only g c = raised _ _ _ c.from_residual.ensures.1 (λ ns e. set_refused ns c.args.place c.args.table.now (g.D.Decoder.levels c.args.decoder.now)
+    (c.count_optional-optional.ensures ∙ ap optional_in c.as_slice.ensures.value) e c.in_err-begin_set.ensures.only)
+
+pub returns-clause-ok : goal.returns-clause-ok
+returns-clause-ok g c = λ ns e. rw c.in_ok-keep.ensures.same
+    (set_opened g.met.D.Decoder.one_record g.met.D.Decoder.records_carried g.met.D.Decoder.values_carried g.D.Decoder.too_few_members ns c.args.place c.args.table.now _ _ _ _ _
+    (c.count_optional-optional.ensures ∙ ap optional_in c.as_slice.ensures.value) e c.in_ok-begin_set.ensures.call.level c.in_ok-begin_set.ensures.ok c.in_ok-keep.ensures.kept)
