@@ -2,9 +2,8 @@
 use Rattle.std.proofs.Common.{◌≤◌, ℕ, zero, suc, false, refl, arith}
 use Rattle.asn1_model.specs.Schema.{Counts, Size, Schema, boolean, required, optional}
 use Rattle.asn1_model.specs.Versions.{Extends}
-use Rattle.asn1_schema_constructed.specs.Bags.{bag_type}
 use Rattle.asn1_schema_laws.specs.Additions.{group_type}
-use Rattle.asn1_schema_laws.specs.Tables.{Table, scope}
+use Rattle.asn1_schema_laws.specs.Tables.{Table, scope, bag_type}
 use Rattle.asn1_schema_types.specs.Versions.{ExtendsFrom}
 use Rattle.asn1_schema_authored.proofs.Fields.{FieldsExtend, KeepsPresenceFrom}
 

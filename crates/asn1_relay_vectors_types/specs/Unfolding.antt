@@ -3,12 +3,11 @@
 use Rattle.std.proofs.Common.{◌≤◌, ℕ, zero, suc, refl, inl, inr, arith}
 use Rattle.asn1_model.specs.Schema.{Counts, Size, Schema, null}
 use Rattle.asn1_laws_values.specs.Unfolding.{AgreesTo, AgreesAlternatives}
-use Rattle.asn1_schema_constructed.specs.Bags.{bag_type}
 use Rattle.asn1_schema_constructed.specs.Recursive.{recursive_choice}
 use Rattle.asn1_schema_constructed.specs.Tables.{alternatives_at, choice_type}
 use Rattle.asn1_relay_types.specs.Nest.{nest_schema}
 use Rattle.asn1_schema_laws.specs.Additions.{group_type}
-use Rattle.asn1_schema_laws.specs.Tables.{Table, scope, list_type}
+use Rattle.asn1_schema_laws.specs.Tables.{Table, scope, list_type, bag_type}
 use Rattle.asn1_schema_types.specs.Versions.{Unfolds}
 use Rattle.asn1_schema_authored.proofs.Unfolding.{FieldsUnfold, constant_unfolds}
 

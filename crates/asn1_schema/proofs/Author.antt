@@ -24,14 +24,14 @@ pub use Rattle.asn1_schema_constructed.proofs.Types.{value_enumerated}
 pub use Rattle.asn1_schema_decode.proofs.Failing.{failed_reads, passed_on}
 pub use Rattle.asn1_schema_decode.proofs.Listing.{ReadsFrom, from_close, from_end, from_further, from_next}
 pub use Rattle.asn1_schema_decode.proofs.Listing.{from_start, from_stuck, reads_list, unread_list, unread_list_here}
-pub use Rattle.asn1_schema_decode.proofs.Reading.{reads_as, reads_end, reads_field, reads_left_out, reads_required}
-pub use Rattle.asn1_schema_decode.proofs.Reading.{reads_sequence, reads_there, unread_as, unread_end, unread_field}
+pub use Rattle.asn1_schema_decode.proofs.Reading.{reads_as, reads_constructed, reads_end, reads_field, reads_left_out}
+pub use Rattle.asn1_schema_decode.proofs.Reading.{reads_required, reads_there, unread_as, unread_end, unread_field}
 pub use Rattle.asn1_schema_decode.proofs.Reading.{unread_field_here, unread_presence_bit, unread_present, unread_required}
-pub use Rattle.asn1_schema_decode.proofs.Reading.{unread_sequence, unread_sequence_here}
+pub use Rattle.asn1_schema_decode.proofs.Reading.{unread_constructed, unread_constructed_here}
 pub use Rattle.asn1_schema_encode.proofs.Going.{failed_before_part, failed_before_value, passed}
-pub use Rattle.asn1_schema_encode.proofs.Writing.{cannot_as, cannot_end, cannot_field, cannot_field_here}
-pub use Rattle.asn1_schema_encode.proofs.Writing.{cannot_required, cannot_this, cannot_this_here, writes_as}
-pub use Rattle.asn1_schema_encode.proofs.Writing.{writes_end, writes_field, writes_required, writes_this}
+pub use Rattle.asn1_schema_encode.proofs.Writing.{cannot_as, cannot_constructed, cannot_constructed_here, cannot_end}
+pub use Rattle.asn1_schema_encode.proofs.Writing.{cannot_field, cannot_field_here, cannot_required, writes_as}
+pub use Rattle.asn1_schema_encode.proofs.Writing.{writes_constructed, writes_end, writes_field, writes_required}
 pub use Rattle.asn1_schema_laws.proofs.Chains.{failed_before}
 pub use Rattle.asn1_schema_laws.proofs.Defaults.{bit_string_default, boolean_default, character_string_default}
 pub use Rattle.asn1_schema_laws.proofs.Defaults.{identifier_default, integer_default, null_default}

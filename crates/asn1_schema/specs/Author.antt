@@ -12,12 +12,13 @@ pub use Rattle.asn1_schema_constraints.specs.Terms.{Meant, bounded_by, from_to, 
 pub use Rattle.asn1_schema_constraints.specs.Terms.{integer_under}
 pub use Rattle.asn1_schema_constraints.specs.Terms.{bit_string_under, character_string_under, octet_string_under}
 pub use Rattle.asn1_schema_constructed.specs.Chosen.{chosen_value}
-pub use Rattle.asn1_schema_constructed.specs.Constructed.{fields_of, sequence_form, sequence_tags, set_form}
+pub use Rattle.asn1_schema_constructed.specs.Constructed.{fields_of, sequence_tags}
 pub use Rattle.asn1_schema_constructed.specs.Sets.{set_type}
 pub use Rattle.asn1_schema_authored.specs.Shapes.{IsHeading, Shape, shape_through}
 pub use Rattle.asn1_schema_constructed.specs.Tables.{no_variant, variant}
 unfoldable pub use Rattle.asn1_schema_constructed.specs.Tables.{choice_type}
 pub use Rattle.asn1_schema_decode.specs.Reads.{Reads, Unread}
+pub use Rattle.asn1_schema_laws.specs.Forms.{sequence_form, set_form}
 pub use Rattle.asn1_schema_laws.specs.Parts.{part_of, values_of}
 pub use Rattle.asn1_schema_laws.specs.Presents.{Part, left_out, there, with_part}
 unfoldable pub use Rattle.asn1_schema_laws.specs.Recursive.{recursive_sequence}

@@ -6,10 +6,10 @@ use Rattle.asn1_model.specs.Normal.{normal, is_group_left_out, is_empty_group}
 use Rattle.asn1_schema_errors.specs.declared.DecodeError.{DecodeError}
 use Rattle.asn1_schema_laws.specs.Records.{Record, group_begins, is_empty, addition, addition_ends, ends, asks_group, asks_empty}
 use Rattle.asn1_schema_laws.specs.Presents.{left_out, presents, optional_count, root_records, Fits, PartsFit}
-use Rattle.asn1_schema_laws.specs.Tables.{Fields, Table, components_at, presence_bits, scope}
+use Rattle.asn1_schema_laws.specs.Tables.{Fields, Table, components_at, optional_field_count, scope}
 use Rattle.asn1_schema_laws.specs.Parts.{part_unless}
 use Rattle.asn1_schema_laws.specs.Chains.{Chain, OneRecord}
-use Rattle.asn1_schema_laws.proofs.Joined.{presence_bits_at}
+use Rattle.asn1_schema_laws.proofs.Joined.{optional_fields_at}
 use Rattle.asn1_schema_decode.specs.Reads.{NoRecord, NoLevel, Reads, Unread, ReadsTail, UnreadTail}
 use Rattle.asn1_schema_lacking_laws.specs.Carried.{CarriesRecords, CarriesValues}
 use Rattle.asn1_schema_laws.specs.Additions.{group_type, IsGroup}
@@ -27,7 +27,7 @@ of_group step cs (fields ps (present w qs)) a c f p = let e : present w qs ≡ e
 of_group step cs (fields ps (absent qs)) a c f p = let e : absent qs ≡ end = f.1 in cc
 of_group step cs v a c f p = absurd f
 
-module _ {S : Type 0} {step : S → Record → S → Type 0} {t : Table} (g : IsGroup t) {k : ℕ} (e : k ≡ presence_bits t.root) where
+module _ {S : Type 0} {step : S → Record → S → Type 0} {t : Table} (g : IsGroup t) {k : ℕ} (e : k ≡ optional_field_count t.root) where
   pub reads_group : {ps qs : Parts} {m n : ℕ} {a b c : S} → m ≡ n + 1 → step a (group_begins k) b → ReadsTail step t n ps qs b c → Reads step (group_type t) m (fields ps end) a c
   unfolding group_type scope presents Fits normal
   reads_group {ps} {qs} {m} {n} {a} {b} {c} l h r =
@@ -36,7 +36,7 @@ module _ {S : Type 0} {step : S → Record → S → Type 0} {t : Table} (g : Is
         raw = fields r.root end;
         fits = (r.fits.0, refl);
         means = ap (λ xs. fields xs end) r.means;
-        chain = (b, subst (λ (i : ℕ). step a (group_begins i) b) (e ∙ sym (presence_bits_at n t.root)) h, subst (λ rs. Chain step rs b c) (group_tail n g r.root z) r.chain);
+        chain = (b, subst (λ (i : ℕ). step a (group_begins i) b) (e ∙ sym (optional_fields_at n t.root)) h, subst (λ rs. Chain step rs b c) (group_tail n g r.root z) r.chain);
       } in
       subst (λ (i : ℕ). Reads step (group_type t) i (fields ps end) a c) (let z : suc n ≡ m = omega arith in z) y
 
@@ -46,7 +46,7 @@ module _ {S : Type 0} {step : S → Record → S → Type 0} {t : Table} (g : Is
   unread_group_here (suc n) h = record {
     none = λ w start near v c f p.
         let d = of_group step (components_at n t.root) v start c f p in
-        h.none w start near (let z : 0 < suc n = omega arith in z) _ d.1 (ap asks_group (presence_bits_at n t.root ∙ sym e)) d.3;
+        h.none w start near (let z : 0 < suc n = omega arith in z) _ d.1 (ap asks_group (optional_fields_at n t.root ∙ sym e)) d.3;
   }
 
   pub unread_group : OneRecord step → {few : S → S → S → Type 0} → CarriesRecords step few → {m n : ℕ} {a b failed : S} {x : DecodeError} →
@@ -57,7 +57,7 @@ module _ {S : Type 0} {step : S → Record → S → Type 0} {t : Table} (g : Is
         none = λ w start near v c f p.
             let j = carries (group_begins k) a b failed start refl h near in
             let d = of_group step (components_at n t.root) v start c f p in
-            let i = (one start (group_begins (optional_count (components_at n t.root))) (group_begins k) d.1 j.0 (ap asks_group (presence_bits_at n t.root ∙ sym e)) d.3 j.1).1 in
+            let i = (one start (group_begins (optional_count (components_at n t.root))) (group_begins k) d.1 j.0 (ap asks_group (optional_fields_at n t.root ∙ sym e)) d.3 j.1).1 in
             let q = subst (λ (s : S). Chain step (root_records (components_at n t.root) d.0 (ends ∷ [])) s c) i d.4 in
             u.none w j.0 j.2 d.0 end c (group_fits n g d.0 refl d.2) (subst (λ rs. Chain step rs j.0 c) (sym (group_tail n g d.0 refl)) q);
       } in

@@ -6,18 +6,18 @@ use Rattle.asn1_model.specs.Normal.{is_group_left_out}
 use Rattle.asn1_schema_errors.specs.declared.EncodeError.{EncodeError}
 use Rattle.asn1_schema_laws.specs.Records.{Record, group_begins, ends}
 use Rattle.asn1_schema_laws.specs.Presents.{left_out, there, presents, noted, root_records, Fits}
-use Rattle.asn1_schema_laws.specs.Tables.{Table, components_at, presence_bits, scope}
+use Rattle.asn1_schema_laws.specs.Tables.{Table, components_at, optional_field_count, scope}
 use Rattle.asn1_schema_laws.specs.Parts.{normal_part, part_unless}
 use Rattle.asn1_schema_laws.specs.Typed.{IsPart}
 use Rattle.asn1_schema_laws.specs.Chains.{Chain, OneAfter}
-use Rattle.asn1_schema_laws.proofs.Joined.{presence_bits_at}
+use Rattle.asn1_schema_laws.proofs.Joined.{optional_fields_at}
 use Rattle.asn1_schema_encode.specs.Writes.{Refused, Writes, CannotWrite, WritesTail, CannotWriteTail}
 use Rattle.asn1_schema_laws.specs.Additions.{group_type, IsGroup}
 use Rattle.asn1_schema_authored.specs.Writes.{WritesEnclosed, CannotWriteEnclosed, WritesAddition, CannotWriteAddition}
 use Rattle.asn1_schema_authored.proofs.Extending.{group_tail, group_fits}
 use Rattle.asn1_schema_authored.proofs.Writing.{writes_addition, cannot_addition}
 
-module _ {S : Type 0} {step : S → Record → S → Type 0} {t : Table} (g : IsGroup t) {k : ℕ} (e : k ≡ presence_bits t.root) {ps qs : Parts} (q : qs ≡ end) where
+module _ {S : Type 0} {step : S → Record → S → Type 0} {t : Table} (g : IsGroup t) {k : ℕ} (e : k ≡ optional_field_count t.root) {ps qs : Parts} (q : qs ≡ end) where
   pub writes_group : {a b c : S} → step a (group_begins k) b → WritesTail step t ps qs b c → Writes step (group_type t) (fields ps end) a c
   unfolding group_type scope presents Fits
   writes_group {a} {b} {c} h w = record {
@@ -25,7 +25,7 @@ module _ {S : Type 0} {step : S → Record → S → Type 0} {t : Table} (g : Is
       | zero ↦ λ f. absurd f
       | suc j ↦ λ f. (
         b,
-        subst (λ (i : ℕ). step a (group_begins i) b) (e ∙ sym (presence_bits_at j t.root)) h,
+        subst (λ (i : ℕ). step a (group_begins i) b) (e ∙ sym (optional_fields_at j t.root)) h,
         subst (λ rs. Chain step rs b c)
             (group_tail j g ps q) (w.chain j (group_fits j g ps q f.0)),
       )
@@ -38,7 +38,7 @@ module _ {S : Type 0} {step : S → Record → S → Type 0} {t : Table} (g : Is
     none = λ w n c. elim n as (λ n. Fits (scope n (λ m. group (components_at m t.root))) (fields ps end) →
         Chain step (presents (scope n (λ m. group (components_at m t.root))) (fields ps end)) a c → ⊥) [
           | zero ↦ λ f p. f
-          | suc j ↦ λ f p. h.none w p.0 (subst (λ (i : ℕ). step a (group_begins i) p.0) (presence_bits_at j t.root ∙ sym e) p.1)
+          | suc j ↦ λ f p. h.none w p.0 (subst (λ (i : ℕ). step a (group_begins i) p.0) (optional_fields_at j t.root ∙ sym e) p.1)
         ];
   }
 
@@ -49,7 +49,7 @@ module _ {S : Type 0} {step : S → Record → S → Type 0} {t : Table} (g : Is
         Chain step (presents (scope n (λ m. group (components_at m t.root))) (fields ps end)) a c → ⊥) [
           | zero ↦ λ f p. f
           | suc j ↦ λ f p.
-              let i = one a (group_begins k) p.0 b (subst (λ (i : ℕ). step a (group_begins i) p.0) (presence_bits_at j t.root ∙ sym e) p.1) h in
+              let i = one a (group_begins k) p.0 b (subst (λ (i : ℕ). step a (group_begins i) p.0) (optional_fields_at j t.root ∙ sym e) p.1) h in
               let r = subst (λ (s : S). Chain step (root_records (components_at j t.root) ps (ends ∷ [])) s c) i p.2 in
               z.none w j c (group_fits j g ps q f.0) (subst (λ rs. Chain step rs b c) (sym (group_tail j g ps q)) r)
         ];

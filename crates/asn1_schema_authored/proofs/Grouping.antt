@@ -5,7 +5,7 @@ use Rattle.asn1_model.specs.Tidy.{is_tidy}
 use Rattle.asn1_model.specs.Value.{Parts, end, fields}
 use Rattle.asn1_schema_laws.specs.Additions.{IsGroup}
 use Rattle.asn1_schema_laws.specs.Tables.{Table, IsType, IsValue, sequence_type}
-use Rattle.asn1_schema_constructed.specs.Constructed.{Form, sequence_form, constructed_type}
+use Rattle.asn1_schema_laws.specs.Forms.{Form, sequence_form, constructed_type}
 use Rattle.asn1_schema_authored.specs.Shapes.{Shape, form_tags}
 use Rattle.asn1_schema_authored.specs.Groups.{GroupShape}
 

@@ -5,7 +5,7 @@ use Rattle.asn1_schema_laws.specs.Tables.{field_tags}
 use Rattle.asn1_schema_laws.specs.Typed.{AreDefaults}
 use Rattle.asn1_schema_laws.proofs.Values.{type_sequence, value_sequence}
 use Rattle.asn1_schema_types.specs.declared.components.ComponentsOf.{Ghosts}
-use Rattle.asn1_schema_constructed.specs.Constructed.{sequence_form, set_form}
+use Rattle.asn1_schema_laws.specs.Forms.{sequence_form, set_form}
 use Rattle.asn1_schema_constructed.specs.Sets.{field_places}
 use Rattle.asn1_schema_authored.specs.Shapes.{Shape}
 use Rattle.asn1_schema_constructed.proofs.SetValues.{type_set, value_set}

@@ -2,9 +2,9 @@
 use Rattle.std.specs.Prelude.{◌≡◌, ℕ, Bool, true, false, cond, List, [], ◌∷◌}
 use Rattle.asn1_model.specs.Schema.{Tag, Schema}
 use Rattle.asn1_model.specs.Value.{Value, Parts, fields}
-use Rattle.asn1_schema_laws.specs.Records.{Record, Question, sequence_begins, set_begins, asks_sequence, asks_set}
-use Rattle.asn1_schema_laws.specs.Tables.{Table, IsType, IsValue, presence_bits}
-use Rattle.asn1_schema_constructed.specs.Constructed.{Form, sequence_form, set_form, constructed_type, sequence_tags}
+use Rattle.asn1_schema_laws.specs.Tables.{Table, IsType, IsValue, optional_field_count}
+use Rattle.asn1_schema_laws.specs.Forms.{Form, sequence_form, set_form, constructed_type}
+use Rattle.asn1_schema_constructed.specs.Constructed.{sequence_tags}
 use Rattle.asn1_schema_tags.specs.declared.tags.Class.TheVariants.{Universal}
 use Rattle.asn1_schema_tags.specs.declared.tags.Tag.{Tag as OwnTag}
 use Rattle.asn1_schema_authored.specs.declared.composites.Heading.{Heading}
@@ -62,16 +62,7 @@ shape_through f s = record {
 pub record IsHeading (h : Heading) (k : Form) (t : Table) : Type 0 where
   pub form : h.set ≡ is_set k
   pub marker : h.extensible ≡ t.extensible
-  pub presence_bits : h.optional ≡ presence_bits t.root
-
--- The record with which a shape begins, and the question of a decoder for it.
-abbrev pub begins : Form → Bool → ℕ → Record
-begins sequence_form e n = sequence_begins e n
-begins set_form e n = set_begins e n
-
-abbrev pub asks : Form → Bool → ℕ → Question
-asks sequence_form e n = asks_sequence e n
-asks set_form e n = asks_set e n
+  pub presence_bits : h.optional ≡ optional_field_count t.root
 
 -- SEQUENCE or SET, from a heading.
 abbrev pub form_of : Bool → Form

@@ -4,7 +4,7 @@ ghost use Rattle.asn1_model.specs.Value.{fields, end, same};
 ghost use Rattle.asn1_model.specs.Schema.{required, optional, by_default};
 ghost use Rattle.asn1_schema_constraints.specs.Terms.{meant};
 ghost use Rattle.asn1_schema_laws.specs.Presents.{there};
-ghost use Rattle.asn1_schema_laws.specs.Tables.{presence_bits, sequence_type};
+ghost use Rattle.asn1_schema_laws.specs.Tables.{optional_field_count, sequence_type};
 ghost use Rattle.asn1_schema_laws.specs.Parts.{part_of, part_unless};
 ghost use Rattle.asn1_schema_decode.specs.Reads.{Reads, Unread};
 ghost use Rattle.asn1_schema_laws.specs.Additions.{group_type, group_part};
@@ -372,7 +372,7 @@ pub trait DecodeExtension: Decoder {
     ) -> Result<C, DecodeError>
     where
         Self: Sized,
-        requires presence_bits { optional ≡ presence_bits C.table.root }
+        requires presence_bits { optional ≡ optional_field_count C.table.root }
         requires extensible { C.table.extensible ≡ true }
         ensures ok { IfOk result
             (λ x. Reads Self.step (sequence_type C.table) (Self.levels self.old) (fields (C.root x) (C.added x))

@@ -3,7 +3,7 @@ ghost use Rattle.std.specs.Prelude.{◌≡◌, true, OnOk, OnErr, IfErr};
 ghost use Rattle.asn1_model.specs.Value.{fields, end, same};
 ghost use Rattle.asn1_model.specs.Schema.{required, optional, by_default};
 ghost use Rattle.asn1_schema_laws.specs.Presents.{there};
-ghost use Rattle.asn1_schema_laws.specs.Tables.{presence_bits, sequence_type};
+ghost use Rattle.asn1_schema_laws.specs.Tables.{optional_field_count, sequence_type};
 ghost use Rattle.asn1_schema_laws.specs.Parts.{part_of, part_unless};
 ghost use Rattle.asn1_schema_constraints.specs.Terms.{meant};
 ghost use Rattle.asn1_schema_encode.specs.Writes.{Writes, CannotWrite};
@@ -232,7 +232,7 @@ pub trait EncodeExtension: Encoder {
     ) -> Result<(), EncodeError>
     where
         Self: Sized,
-        requires presence_bits { optional ≡ presence_bits C.table.root }
+        requires presence_bits { optional ≡ optional_field_count C.table.root }
         requires extensible { C.table.extensible ≡ true }
         ensures ok { OnOk result
             (Writes Self.step (sequence_type C.table) (fields (C.root components.now) (C.added components.now))

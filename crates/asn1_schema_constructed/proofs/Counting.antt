@@ -4,7 +4,7 @@ use Rattle.asn1_model.specs.Schema.{Presence, required, optional, by_default}
 use Rattle.asn1_model.specs.Normal.{is_required}
 use Rattle.asn1_schema_constructed.specs.declared.tables.Field.{Field}
 use Rattle.asn1_schema_constructed.specs.Fields.{may_be_absent, is_optional}
-use Rattle.asn1_schema_laws.specs.Tables.{Fields, no_field, field, presence_bits}
+use Rattle.asn1_schema_laws.specs.Tables.{Fields, no_field, field, optional_field_count}
 use Rattle.asn1_schema_constructed.specs.Constructed.{presence_of, AreFieldsFrom, AreFields}
 
 may_be : (o : Presence) → may_be_absent (presence_of o) ≡ not (is_required o)
@@ -18,11 +18,11 @@ one_more f fs required n e h = rw e h
 one_more f fs optional n e h = rw e (ap suc h)
 one_more f fs (by_default v) n e h = rw e (ap suc h)
 
-count_from : (i : ℕ) (fs : List Field) (cs : Fields) → AreFieldsFrom i fs cs → length (filter is_optional fs) ≡ presence_bits cs
+count_from : (i : ℕ) (fs : List Field) (cs : Fields) → AreFieldsFrom i fs cs → length (filter is_optional fs) ≡ optional_field_count cs
 count_from i [] no_field h = refl
 count_from i [] (field t o s rest) h = absurd h
 count_from i (f ∷ fs) no_field h = absurd h
-count_from i (f ∷ fs) (field t o s rest) h = one_more f fs o (presence_bits rest) (ap may_be_absent h.3 ∙ may_be o) (count_from (suc i) fs rest h.4)
+count_from i (f ∷ fs) (field t o s rest) h = one_more f fs o (optional_field_count rest) (ap may_be_absent h.3 ∙ may_be o) (count_from (suc i) fs rest h.4)
 
-pub count_presence_bits : (fs : List Field) (cs : Fields) → AreFields fs cs → length (filter is_optional fs) ≡ presence_bits cs
+pub count_presence_bits : (fs : List Field) (cs : Fields) → AreFields fs cs → length (filter is_optional fs) ≡ optional_field_count cs
 count_presence_bits fs cs h = count_from 0 fs cs h

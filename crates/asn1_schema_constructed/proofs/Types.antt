@@ -8,6 +8,7 @@ use Rattle.asn1_model.specs.Lawful.{is_lawful, are_lawful_alternatives, is_group
 use Rattle.asn1_schema_laws.specs.Presents.{Fits, ChosenFits}
 use Rattle.asn1_schema_laws.specs.Tables.{scope, is_one_tag, are_choice_tags, IsType, IsValue}
 use Rattle.asn1_schema_laws.proofs.Beginnings.{tags_of_one, tags_of_cut, tags_of_choice, choice_tags}
+use Rattle.asn1_schema_laws.proofs.Recursive.{type_at as level_type}
 use Rattle.asn1_schema_constructed.specs.Tables.{Variants, no_variant, variant, alternatives_at, Choices, side, tags_of, all_tags, type_at, choice_type, are_choices, AreVariants, are_items}
 use Rattle.asn1_schema_constructed.specs.Recursive.{recursive_choice}
 
@@ -106,16 +107,13 @@ cut_type : {ts : List Tag} → are_tags ts ≡ true → IsType ts (λ _. cut)
 unfolding is_lawful is_tidy
 cut_type {ts} e = record { tagged = λ n. tags_of_cut ts e; lawful = λ n. refl; tidy = λ n. refl; no_group = λ n. refl }
 
-type_below : {ts : List Tag} {s : ℕ → Schema} → IsType ts s → (n : ℕ) → IsType ts (λ _. s n)
-type_below h n = record { tagged = λ m. h.tagged n; lawful = λ m. h.lawful n; tidy = λ m. h.tidy n; no_group = λ m. h.no_group n }
-
 module _ {ts : List Tag} (f : (ℕ → Schema) → Choices) (e : (s : ℕ → Schema) → are_choice_tags ts (all_tags (f s)) ≡ true)
     (h : (s : ℕ → Schema) → IsType ts s → AreVariants (f s).root) (k : (s : ℕ → Schema) → IsType ts s → AreVariants (f s).additions) (d : (s : ℕ → Schema) → are_choices (f s) ≡ true) where
   each_level : (n : ℕ) → IsType ts (λ _. recursive_choice f n)
   unfolding recursive_choice
   each_level zero = cut_type (choice_tags ts (all_tags (f (λ _. cut))) (e (λ _. cut)))
   each_level (suc n) = let t = each_level n in
-      type_below (type_choice (f (λ _. recursive_choice f n)) (e (λ _. recursive_choice f n)) (h (λ _. recursive_choice f n) t)
+      level_type (type_choice (f (λ _. recursive_choice f n)) (e (λ _. recursive_choice f n)) (h (λ _. recursive_choice f n) t)
       (k (λ _. recursive_choice f n) t) (d (λ _. recursive_choice f n))) (suc n)
 
   pub recursive_choice_type : IsType ts (recursive_choice f)

@@ -1,14 +1,13 @@
 -- The components that a table of fields describes.
 use Rattle.std.specs.Prelude.{◌≡◌, ℕ, suc, true, false, List, [], ◌∷◌, Option, Some, None}
-use Rattle.asn1_model.specs.Schema.{Tag, Presence, required, optional, by_default, Schema, set}
+use Rattle.asn1_model.specs.Schema.{Tag, Presence, required, optional, by_default}
 use Rattle.asn1_model.specs.Value.{Value, Parts, fields}
 use Rattle.asn1_schema_tags.specs.Trees.{leaves, own_tag}
 use Rattle.asn1_schema_constructed.specs.declared.tables.FieldPresence.{FieldPresence}
 use Rattle.asn1_schema_constructed.specs.declared.tables.FieldPresence.TheVariants.{Required, Optional, Default}
 use Rattle.asn1_schema_constructed.specs.declared.tables.Field.{Field}
 use Rattle.asn1_schema_constructed.specs.declared.tables.Fields.{Fields}
-use Rattle.asn1_schema_laws.specs.Tables.{Fields as Components, no_field, field, Table, scope, components_at}
-use Rattle.asn1_schema_laws.specs.Tables.{sequence_type}
+use Rattle.asn1_schema_laws.specs.Tables.{Fields as Components, no_field, field, Table}
 
 -- Whether a component is mandatory, OPTIONAL or has a DEFAULT (X.680 25).
 abbrev pub presence_of : Presence → FieldPresence
@@ -40,15 +39,3 @@ sequence_tags = record { class = 0; number = 16 } ∷ []
 -- A value with these components: those of the root, and the additions.
 abbrev pub fields_of : {F : Type 0} → (F → Parts) → (F → Parts) → F → Value
 fields_of root added form = fields (root form) (added form)
-
--- Which type has the components.
-pub data Form : Type 0 where
-  -- SEQUENCE (X.680 25)
-  sequence_form : Form
-  -- SET (X.680 27)
-  set_form : Form
-
--- The type of these components, in their order.
-abbrev pub constructed_type : Form → Table → ℕ → Schema
-constructed_type sequence_form t n = sequence_type t n
-constructed_type set_form t n = scope n (λ m. set (components_at m t.root) t.extensible (components_at m t.additions))

@@ -3,7 +3,7 @@ use Rattle.std.specs.Prelude.{ℕ, List, [], ◌∷◌}
 use Rattle.asn1_model.specs.Schema.{Tag, Schema}
 use Rattle.asn1_model.specs.Lawful.{smallest}
 use Rattle.asn1_schema_laws.specs.Tables.{Fields, no_field, field, Table}
-use Rattle.asn1_schema_constructed.specs.Constructed.{set_form, constructed_type}
+use Rattle.asn1_schema_laws.specs.Forms.{set_form, constructed_type}
 
 -- SET of these components.
 abbrev pub set_type : Table → ℕ → Schema

@@ -7,7 +7,7 @@ ghost use Rattle.asn1_schema_encode.specs.Writes.{Writes, CannotWrite};
 ghost use Rattle.asn1_schema_errors.specs.Calls.{EncoderCall};
 
 use asn1_schema_constraints::{Bounded, Constraints};
-use asn1_schema_encode::{Encode, Encoder};
+use asn1_schema_encode::{Encode, Encoder, encode_members};
 use asn1_schema_errors::EncodeError;
 use asn1_schema_tags::Tag;
 
@@ -33,12 +33,7 @@ pub trait EncodeBag: Encoder {
         ensures call { EncoderCall Self.has_failed Self.front self.old self.new result }
     {
         self.begin_bag(tag, constraints, held, items.len())?;
-        for item in items {
-            self.encode_further(true)?;
-            item.encode(self)?;
-        }
-        self.encode_further(false)?;
-        self.end()?;
+        encode_members(self, items)?;
         Ok(())
     }
 }

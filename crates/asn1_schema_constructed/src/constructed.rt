@@ -5,7 +5,8 @@ ghost use Rattle.asn1_schema_constraints.specs.Terms.{Meant};
 ghost use Rattle.asn1_schema_laws.specs.Tables.{Table, sequence_type};
 ghost use Rattle.asn1_schema_encode.specs.Writes.{Writes, CannotWrite, WritesTail, CannotWriteTail};
 ghost use Rattle.asn1_schema_decode.specs.Reads.{Reads, Unread, ReadsTail, UnreadTail};
-ghost use Rattle.asn1_schema_constructed.specs.Constructed.{Form, AreFields, AreAdditions, constructed_type};
+ghost use Rattle.asn1_schema_laws.specs.Forms.{Form, constructed_type};
+ghost use Rattle.asn1_schema_constructed.specs.Constructed.{AreFields, AreAdditions};
 ghost use Rattle.asn1_schema_errors.specs.Calls.{DecoderCall, EncoderCall, OneLevelMore, SameLevel};
 
 use crate::Fields;

@@ -1,7 +1,7 @@
 //! How SET types are decoded.
 ghost use Rattle.std.specs.Prelude.{◌≡◌, OnOk, OnErr, IfErr, IfOk};
 ghost use Rattle.asn1_model.specs.Value.{fields};
-ghost use Rattle.asn1_schema_laws.specs.Tables.{presence_bits};
+ghost use Rattle.asn1_schema_laws.specs.Tables.{optional_field_count};
 ghost use Rattle.asn1_schema_decode.specs.Reads.{Reads, Unread};
 ghost use Rattle.asn1_schema_constructed.specs.Sets.{set_type};
 ghost use Rattle.asn1_schema_errors.specs.Calls.{DecoderCall, SameLevel};
@@ -25,7 +25,7 @@ pub trait DecodeSet: Decoder {
     ) -> Result<C, DecodeError>
     where
         Self: Sized,
-        requires presence_bits { optional ≡ presence_bits C.table.root }
+        requires presence_bits { optional ≡ optional_field_count C.table.root }
         requires marker { C.table.extensible ≡ extensible }
         ensures ok { IfOk result
             (λ x. Reads Self.step (set_type C.table) (Self.levels self.old) (fields (C.root x) (C.added x))

@@ -1,7 +1,7 @@
 //! How SET types are encoded.
 ghost use Rattle.std.specs.Prelude.{◌≡◌, OnOk, OnErr, IfErr};
 ghost use Rattle.asn1_model.specs.Value.{fields};
-ghost use Rattle.asn1_schema_laws.specs.Tables.{presence_bits};
+ghost use Rattle.asn1_schema_laws.specs.Tables.{optional_field_count};
 ghost use Rattle.asn1_schema_encode.specs.Writes.{Writes, CannotWrite};
 ghost use Rattle.asn1_schema_constructed.specs.Sets.{set_type};
 ghost use Rattle.asn1_schema_errors.specs.Calls.{EncoderCall};
@@ -24,7 +24,7 @@ pub trait EncodeSet: Encoder {
     ) -> Result<(), EncodeError>
     where
         Self: Sized,
-        requires presence_bits { optional ≡ presence_bits C.table.root }
+        requires presence_bits { optional ≡ optional_field_count C.table.root }
         requires marker { C.table.extensible ≡ extensible }
         ensures ok { OnOk result
             (Writes Self.step (set_type C.table) (fields (C.root components.now) (C.added components.now)) self.old

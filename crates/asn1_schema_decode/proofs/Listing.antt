@@ -2,18 +2,19 @@
 use Rattle.std.specs.Prelude.{not}
 use Rattle.std.proofs.lemmas.Bool.{and_parts, le-leb, leb-true}
 use Rattle.std.proofs.Common.{◌≡◌, ℕ, ◌+◌, ◌<◌, ◌≤◌, leb, Option, Some, None, zero, suc, Bool, true, false, List, [], ◌∷◌, ◌++◌, refl, subst, sym, ◌∙◌, ap, arith, length}
-use Rattle.asn1_model.specs.Value.{Value, Values, no_more, member, members, map_members}
-use Rattle.asn1_model.specs.Schema.{Schema, Size, Counts, sequence_of}
+use Rattle.asn1_model.specs.Value.{Value, Values, no_more, member, map_members}
+use Rattle.asn1_model.specs.Schema.{Schema, Size, Counts}
 use Rattle.asn1_model.specs.Normal.{normal}
 use Rattle.asn1_model.specs.Numbers.{is_count_within}
 use Rattle.asn1_schema_errors.specs.declared.DecodeError.{DecodeError}
-use Rattle.asn1_schema_laws.specs.Records.{Record, list_begins, further, ends, asks_list, asks_further, asks_end}
+use Rattle.asn1_schema_laws.specs.Records.{Record, further, ends, asks_further, asks_end}
 use Rattle.asn1_model.specs.Lawful.{IsLawful, member_count}
 use Rattle.asn1_schema_laws.specs.Presents.{presents, member_records, Fits, AllFit}
 use Rattle.asn1_schema_laws.specs.Parts.{values_of}
-use Rattle.asn1_schema_laws.specs.Tables.{scope, list_type}
+use Rattle.asn1_schema_laws.specs.Forms.{Form, sequence_form, set_form}
 use Rattle.asn1_schema_laws.specs.Chains.{Chain, OneRecord}
 use Rattle.asn1_schema_laws.proofs.Chains.{chain_append, chain_split}
+use Rattle.asn1_schema_laws.proofs.Forms.{listed_type, listed, begins_list, asks_for_list, list_question, no_list, list_fits, list_records, elements_of, normal_list, count_values, count_mapped}
 use Rattle.asn1_schema_laws.proofs.OneValue.{one_value}
 use Rattle.asn1_schema_decode.specs.Reads.{NoRecord, NoLevel, Reads, Unread, ReadsMembers, UnreadMembers}
 use Rattle.asn1_schema_lacking_laws.specs.Carried.{CarriesMembers}
@@ -31,14 +32,6 @@ joined_more f (y ∷ xs) x us = ap (member (f y)) (joined_more f xs x us)
 joined_all : (vs : Values) → joined vs no_more ≡ vs
 joined_all no_more = refl
 joined_all (member v vs) = ap (member v) (joined_all vs)
-
-count_values : {A : Type 0} (f : A → Value) (xs : List A) → member_count (values_of f xs) ≡ length xs
-count_values f [] = refl
-count_values f (x ∷ xs) = ap suc (count_values f xs)
-
-count_mapped : (g : Value → Value) (vs : Values) → member_count (map_members g vs) ≡ member_count vs
-count_mapped g no_more = refl
-count_mapped g (member v vs) = ap suc (count_mapped g vs)
 
 one_longer : {A : Type 0} (xs : List A) (x : A) → length (xs ++ x ∷ []) ≡ suc (length xs)
 one_longer [] x = refl
@@ -188,47 +181,49 @@ module _ {S A : Type 0} {step : S → Record → S → Type 0} {within : S → S
             cc;
       }
 
-module _ {S : Type 0} {step : S → Record → S → Type 0} (s : ℕ → Schema) (z : Size) (h : Counts) {a b : S} {m n : ℕ} where
+-- SEQUENCE OF and SET OF
+carried_list : {S : Type 0} {step : S → Record → S → Type 0} {few within : S → S → S → Type 0} → CarriesMembers step few within → (k : Form) (z : Size) (h : Counts)
+    (i : ℕ) (a b failed c : S) → step a (begins_list k z h i) b → few a failed c → (d : S) × step c (begins_list k z h i) d × within b failed d
+carried_list carries sequence_form = carries.list
+carried_list carries set_form = carries.bag
+
+module _ {S : Type 0} {step : S → Record → S → Type 0} (k : Form) (s : ℕ → Schema) (z : Size) (h : Counts) {a b : S} {m n : ℕ} where
   -- a list begins with any number of elements that h admits
   pub reads_list : {A : Type 0} (f : A → Value) (xs : List A) {c : S} → m ≡ n + 1 →
-      ((k : ℕ) → is_count_within h k ≡ true → step a (list_begins z h k) b) → is_count_within h (length xs) ≡ true →
-      ReadsMembers step s n (values_of f xs) b c → Reads step (list_type z h s) m (members (values_of f xs)) a c
-  unfolding list_type scope presents Fits normal
-  reads_list f xs {c} l i k r =
-      let e : member_count r.raw ≡ length xs = sym (count_mapped (λ v. normal (s n) v) r.raw) ∙ ap member_count r.means ∙ count_values f xs in
-      let y : Reads step (list_type z h s) (suc n) (members (values_of f xs)) a c = record {
-        raw = members r.raw;
-        fits = r.fits;
-        means = ap members r.means;
-        chain = (b, i (member_count r.raw) (rw e k), r.chain);
+      ((i : ℕ) → is_count_within h i ≡ true → step a (begins_list k z h i) b) → is_count_within h (length xs) ≡ true →
+      ReadsMembers step s n (values_of f xs) b c → Reads step (listed_type k z h s) m (listed k (values_of f xs)) a c
+  reads_list f xs {c} l i e r =
+      let o : member_count r.raw ≡ length xs = sym (count_mapped (λ v. normal (s n) v) r.raw) ∙ ap member_count r.means ∙ count_values f xs in
+      let y : Reads step (listed_type k z h s) (suc n) (listed k (values_of f xs)) a c = record {
+        raw = listed k r.raw;
+        fits = list_fits z h s n k r.raw r.fits;
+        means = normal_list z h s n k r.raw ∙ ap (λ vs. listed k vs) r.means;
+        chain = subst (λ rs. Chain step rs a c) (sym (list_records z h s n k r.raw)) (b, i (member_count r.raw) (rw o e), r.chain);
       } in
-      subst (λ (i : ℕ). Reads step (list_type z h s) i (members (values_of f xs)) a c) (let z : suc n ≡ m = omega arith in z) y
+      subst (λ (i : ℕ). Reads step (listed_type k z h s) i (listed k (values_of f xs)) a c) (let z : suc n ≡ m = omega arith in z) y
 
   pub unread_list : OneRecord step → {few within : S → S → S → Type 0} → CarriesMembers step few within →
-      ((a : S) (z : Size) (h : Counts) (k : ℕ) (b : S) → step a (list_begins z h k) b → is_count_within h k
-      ≡ true) → {failed : S} {x : DecodeError} → m ≡ n + 1 → ((k : ℕ) → is_count_within h k ≡ true → step a (list_begins z h k) b) →
-      UnreadMembers step within s n h b failed x → Unread step few (list_type z h s) m a failed x
-  unfolding list_type scope presents Fits
+      ((a : S) (z : Size) (h : Counts) (i : ℕ) (b : S) → step a (begins_list k z h i) b → is_count_within h i ≡ true) →
+      {failed : S} {x : DecodeError} → m ≡ n + 1 → ((i : ℕ) → is_count_within h i ≡ true → step a (begins_list k z h i) b) →
+      UnreadMembers step within s n h b failed x → Unread step few (listed_type k z h s) m a failed x
   unread_list one {few} {within} carries held {failed} {x} l i u =
-      let y : Unread step few (list_type z h s) (suc n) a failed x = record {
-        none = λ w start near v c. elim v as (λ v. Fits (sequence_of z h (s n)) v → Chain step (presents (sequence_of z h (s n)) v) start c → ⊥) [
-          | members vs ↦ λ g p.
-              let k = held start z h (member_count vs) p.0 p.1 in
-              let q = carries.list z h (member_count vs) a b failed start (i (member_count vs) k) near in
-              let e = (one start (list_begins z h (member_count vs)) (list_begins z h (member_count vs)) p.0 q.0 refl p.1 q.1).1 in
-              u.none w q.0 q.2 vs c k g (subst (λ (y : S). Chain step (member_records (λ v. presents (s n) v) vs) y c) e p.2)
-          | _ ↦ λ g p. g
-        ];
+      let y : Unread step few (listed_type k z h s) (suc n) a failed x = record {
+        none = λ w start near v c g p.
+            let r = elements_of z h s n k v g in
+            let t = subst (λ rs. Chain step rs start c) r.2 p in
+            let e = held start z h (member_count r.0) t.0 t.1 in
+            let q = carried_list carries k z h (member_count r.0) a b failed start (i (member_count r.0) e) near in
+            let o = (one start (begins_list k z h (member_count r.0)) (begins_list k z h (member_count r.0)) t.0 q.0 refl t.1 q.1).1 in
+            u.none w q.0 q.2 r.0 c e r.1 (subst (λ (y : S). Chain step (member_records (λ v. presents (s n) v) r.0) y c) o t.2);
       } in
-      subst (λ (i : ℕ). Unread step few (list_type z h s) i a failed x) (let z : suc n ≡ m = omega arith in z) y
+      subst (λ (i : ℕ). Unread step few (listed_type k z h s) i a failed x) (let z : suc n ≡ m = omega arith in z) y
 
-pub unread_list_here : {S : Type 0} {step : S → Record → S → Type 0} (s : ℕ → Schema) (z : Size) (h : Counts)
-    (m : ℕ) {few : S → S → S → Type 0} {a failed : S} {x : DecodeError} → NoLevel step few (asks_list z h) m a failed x → Unread step few (list_type z h s) m a failed x
-unfolding list_type scope presents Fits
-unread_list_here s z h zero k = record { none = λ w start near v c g p. g }
-unread_list_here {step = step} s z h (suc n) {a} k = record {
-  none = λ w start near v c. elim v as (λ v. Fits (sequence_of z h (s n)) v → Chain step (presents (sequence_of z h (s n)) v) start c → ⊥) [
-    | members vs ↦ λ g p. k.none w start near (let y : 0 < suc n = omega arith in y) _ p.0 refl p.1
-    | _ ↦ λ g p. g
-  ];
+pub unread_list_here : {S : Type 0} {step : S → Record → S → Type 0} (k : Form) (s : ℕ → Schema) (z : Size) (h : Counts) (m : ℕ)
+    {few : S → S → S → Type 0} {a failed : S} {x : DecodeError} → NoLevel step few (asks_for_list k z h) m a failed x → Unread step few (listed_type k z h s) m a failed x
+unread_list_here k s z h zero u = record { none = λ w start near v c g p. no_list z h s k v g }
+unread_list_here {step = step} k s z h (suc n) u = record {
+  none = λ w start near v c g p.
+      let r = elements_of z h s n k v g in
+      let t = subst (λ rs. Chain step rs start c) r.2 p in
+      u.none w start near (let y : 0 < suc n = omega arith in y) (begins_list k z h (member_count r.0)) t.0 (list_question k z h (member_count r.0)) t.1;
 }

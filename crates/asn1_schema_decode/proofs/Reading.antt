@@ -1,14 +1,15 @@
 -- How what a decoder finds is put together.
 use Rattle.std.proofs.Common.{◌≡◌, ℕ, ◌+◌, ◌<◌, zero, suc, Bool, true, false, List, [], ◌∷◌, ◌++◌, refl, subst, sym, ◌∙◌, ap, arith}
 use Rattle.asn1_model.specs.Value.{Value, fields, Parts, end, absent, present, same}
-use Rattle.asn1_model.specs.Schema.{Tag, Presence, required, by_default, Schema, sequence}
+use Rattle.asn1_model.specs.Schema.{Tag, Presence, required, by_default, Schema}
 use Rattle.asn1_model.specs.Normal.{normal, normal_parts, is_at_default, is_group_left_out}
 use Rattle.asn1_model.specs.Normal.{is_required}
 use Rattle.asn1_schema_errors.specs.declared.DecodeError.{DecodeError}
-use Rattle.asn1_schema_laws.specs.Records.{Record, sequence_begins, presence_bit, is_default, ends, asks_sequence, asks_presence_bit, asks_end}
-use Rattle.asn1_schema_laws.specs.Presents.{Part, left_out, there, with_part, presents, part_records, noted, root_records, added_records, optional_count, Fits, PartFits, PartsFit}
+use Rattle.asn1_schema_laws.specs.Records.{Record, presence_bit, is_default, ends, asks_presence_bit, asks_end}
+use Rattle.asn1_schema_laws.specs.Presents.{Part, left_out, there, with_part, presents, part_records, noted, root_records, added_records, Fits, PartFits, PartsFit}
 use Rattle.asn1_schema_laws.specs.Parts.{part_unless, tail_records, TailFits}
-use Rattle.asn1_schema_laws.specs.Tables.{Table, no_table, with_field, components_at, presence_bits, scope, sequence_type, IsType, IsValue}
+use Rattle.asn1_schema_laws.specs.Tables.{Table, no_table, with_field, components_at, optional_field_count, IsType, IsValue}
+use Rattle.asn1_schema_laws.specs.Forms.{Form, sequence_form, set_form, constructed_type, begins, asks}
 use Rattle.asn1_schema_laws.specs.Chains.{Chain, OneRecord}
 use Rattle.asn1_schema_laws.proofs.Chains.{chain_append, chain_split}
 use Rattle.asn1_schema_laws.proofs.OneValue.{one_value, one_part}
@@ -16,8 +17,9 @@ use Rattle.asn1_schema_laws.proofs.Values.{not_empty, normal_field, fits_field}
 use Rattle.asn1_schema_laws.proofs.Same.{same_self}
 use Rattle.asn1_schema_decode.proofs.Carrying.{reads_part_near}
 use Rattle.asn1_schema_decode.specs.Reads.{NoRecord, NoLevel, Reads, Unread, ReadsPart, UnreadPart, ReadsTail, UnreadTail}
-use Rattle.asn1_schema_lacking_laws.specs.Carried.{CarriesRecords, CarriesValues}
-use Rattle.asn1_schema_laws.proofs.Joined.{presence_bits_at, tail_field, nothing_noted, there_records, present_records}
+use Rattle.asn1_schema_lacking_laws.specs.Carried.{keeps_members, CarriesRecords, CarriesValues}
+use Rattle.asn1_schema_laws.proofs.Forms.{form_question, no_fields, form_fits, form_records, form_parts, normal_form}
+use Rattle.asn1_schema_laws.proofs.Joined.{tail_field, nothing_noted, there_records, present_records}
 
 not_at_end : {S : Type 0} (step : S → Record → S → Type 0) (n : ℕ) (ps qs : Parts) (a b : S) → TailFits n no_table ps qs → Chain step (tail_records n no_table ps qs) a b → (c : S) × step a ends c
 unfolding components_at PartsFit root_records added_records
@@ -26,6 +28,13 @@ not_at_end step n end (present v qs) a b f p = absurd f.1
 not_at_end step n end (absent qs) a b f p = absurd f.1
 not_at_end step n (present v ps) qs a b f p = absurd f.0
 not_at_end step n (absent ps) qs a b f p = absurd f.0
+
+asked_alike : (k : Form) (t : Table) {x : Bool} {i : ℕ} → i ≡ optional_field_count t.root → t.extensible ≡ x → asks k t.extensible (optional_field_count t.root) ≡ asks k x i
+asked_alike k t {x} {i} e f = ap (λ j. asks k t.extensible j) (sym e) ∙ ap (λ y. asks k y i) f
+
+begins_keep : (k : Form) (x : Bool) (i : ℕ) → keeps_members (begins k x i) ≡ true
+begins_keep sequence_form x i = refl
+begins_keep set_form x i = refl
 
 module _ {S : Type 0} {step : S → Record → S → Type 0} where
   -- ---- one component
@@ -108,18 +117,18 @@ module _ {S : Type 0} {step : S → Record → S → Type 0} where
     chain = subst (λ rs. Chain step rs a c) (sym (tail_field n ts o s t h.raw k.root k.additions)) (chain_append step _ _ a b c h.chain k.chain);
   }
 
-  pub reads_sequence : (t : Table) {x : Bool} {k : ℕ} {ps qs : Parts} {m n : ℕ} {a b c : S} → k ≡ presence_bits t.root →
-      t.extensible ≡ x → m ≡ n + 1 → step a (sequence_begins x k) b → ReadsTail step t n ps qs b c → Reads step (sequence_type t) m (fields ps qs) a c
-  unfolding sequence_type scope presents Fits normal
-  reads_sequence t {x} {k} {ps} {qs} {m} {n} {a} {b} {c} e f l h r =
-      let h' = subst (λ (y : Bool). step a (sequence_begins y k) b) (sym f) h in
-      let y : Reads step (sequence_type t) (suc n) (fields ps qs) a c = record {
+  pub reads_constructed : (k : Form) (t : Table) {x : Bool} {i : ℕ} {ps qs : Parts} {m n : ℕ} {a b c : S} → i ≡ optional_field_count t.root →
+      t.extensible ≡ x → m ≡ n + 1 → step a (begins k x i) b → ReadsTail step t n ps qs b c → Reads step (constructed_type k t) m (fields ps qs) a c
+  reads_constructed k t {x} {i} {ps} {qs} {m} {n} {a} {b} {c} e f l h r =
+      let h' = subst (λ (y : Bool). step a (begins k y i) b) (sym f) h in
+      let y : Reads step (constructed_type k t) (suc n) (fields ps qs) a c = record {
         raw = fields r.root r.additions;
-        fits = r.fits;
-        means = ap (λ xs. fields xs (normal_parts (components_at n t.additions) r.additions)) r.means ∙ ap (λ xs. fields ps xs) r.means_added;
-        chain = (b, subst (λ (i : ℕ). step a (sequence_begins t.extensible i) b) (e ∙ sym (presence_bits_at n t.root)) h', r.chain);
+        fits = form_fits t n k r.root r.additions r.fits;
+        means = normal_form t n k r.root r.additions
+            ∙ ap (λ xs. fields xs (normal_parts (components_at n t.additions) r.additions)) r.means ∙ ap (λ xs. fields ps xs) r.means_added;
+        chain = subst (λ rs. Chain step rs a c) (sym (form_records t n k r.root r.additions)) (b, subst (λ (j : ℕ). step a (begins k t.extensible j) b) e h', r.chain);
       } in
-      subst (λ (i : ℕ). Reads step (sequence_type t) i (fields ps qs) a c) (let z : suc n ≡ m = omega arith in z) y
+      subst (λ (j : ℕ). Reads step (constructed_type k t) j (fields ps qs) a c) (let z : suc n ≡ m = omega arith in z) y
 
   pub unread_end : (n : ℕ) {few : S → S → S → Type 0} {a failed : S} {x : DecodeError} → NoRecord step few asks_end a failed x → UnreadTail step few no_table n a failed x
   unread_end n {a} h = record { none = λ w start near ps qs b f p. let t = not_at_end step n ps qs start b f p in h.none w start near ends t.0 refl t.1 }
@@ -140,21 +149,15 @@ module _ {S : Type 0} {step : S → Record → S → Type 0} where
       (t : Table) {n : ℕ} {few : S → S → S → Type 0} {a failed : S} {x : DecodeError} → UnreadPart step few o s n a failed x → UnreadTail step few (with_field ts o s t) n a failed x
   unread_field_here ts {o} {s} t {n} {a} h = record { none = λ w start near ps qs c f p. let d = parts_of n ts o s t ps qs start c f p in h.none w start near d.0 d.2 d.3 d.5 }
 
-  pub unread_sequence_here : (t : Table) {x : Bool} {k : ℕ} (m : ℕ) {few : S → S → S → Type 0} {a failed : S} {y : DecodeError} → k
-      ≡ presence_bits t.root → t.extensible ≡ x → NoLevel step few (asks_sequence x k) m a failed y → Unread step few (sequence_type t) m a failed y
-  unfolding sequence_type scope presents Fits
-  unread_sequence_here t zero e f h = record { none = λ w start near v c g p. g }
-  unread_sequence_here t {x} {k} (suc n) {a} e f h =
-      record {
-        none = λ w start near v c. elim v as (λ v. Fits
-            (sequence (components_at n t.root) t.extensible (components_at n t.additions)) v →
-            Chain step (presents (sequence (components_at n t.root) t.extensible (components_at n t.additions)) v) start c →
-            ⊥) [
-              | fields ps qs ↦ λ g p. h.none w start near (let z : 0 < suc n = omega arith in z) _ p.0
-                  (ap (λ i. asks_sequence t.extensible i) (presence_bits_at n t.root ∙ sym e) ∙ ap (λ i. asks_sequence i k) f) p.1
-              | _ ↦ λ g p. g
-            ];
-      }
+  pub unread_constructed_here : (k : Form) (t : Table) {x : Bool} {i : ℕ} (m : ℕ) {few : S → S → S → Type 0} {a failed : S} {y : DecodeError} →
+      i ≡ optional_field_count t.root → t.extensible ≡ x → NoLevel step few (asks k x i) m a failed y → Unread step few (constructed_type k t) m a failed y
+  unread_constructed_here k t zero e f h = record { none = λ w start near v c g p. no_fields t k v g }
+  unread_constructed_here k t {x} {i} (suc n) e f h = record {
+    none = λ w start near v c g p.
+        let q = form_parts t n k v g in
+        let r = subst (λ rs. Chain step rs start c) q.3 p in
+        h.none w start near (let z : 0 < suc n = omega arith in z) (begins k t.extensible (optional_field_count t.root)) r.0 (form_question k _ _ ∙ asked_alike k t e f) r.1;
+  }
 
   module _ (one : OneRecord step) {few : S → S → S → Type 0} (carries : CarriesRecords step few) where
     -- where a component ends
@@ -173,24 +176,19 @@ module _ {S : Type 0} {step : S → Record → S → Type 0} where
           ];
     }
 
-    pub unread_sequence : (t : Table) {x : Bool} {k : ℕ} {m n : ℕ} {a b failed : S} {y : DecodeError} → k ≡ presence_bits t.root →
-        t.extensible ≡ x → m ≡ n + 1 → step a (sequence_begins x k) b → UnreadTail step few t n b failed y → Unread step few (sequence_type t) m a failed y
-    unfolding sequence_type scope presents Fits
-    unread_sequence t {x} {k} {m} {n} {a} {b} {failed} {y} e f l h u =
-        let r : Unread step few (sequence_type t) (suc n) a failed y = record {
-          none = λ w start near v c.
-              let i = carries (sequence_begins x k) a b failed start refl h near in
-              elim v as (λ v. Fits (sequence (components_at n t.root) t.extensible (components_at n t.additions)) v →
-              Chain step (presents (sequence (components_at n t.root) t.extensible (components_at n t.additions)) v) start c →
-              ⊥) [
-                | fields ps qs ↦ λ g p. u.none w i.0 i.2 ps qs c g
-                    (subst (λ (z : S). Chain step (tail_records n t ps qs) z c)
-                    (one start (sequence_begins t.extensible (optional_count (components_at n t.root))) (sequence_begins x k) p.0 i.0
-                    (ap (λ i. asks_sequence t.extensible i) (presence_bits_at n t.root ∙ sym e) ∙ ap (λ i. asks_sequence i k) f) p.1 i.1).1 p.2)
-                | _ ↦ λ g p. g
-              ];
+    pub unread_constructed : (k : Form) (t : Table) {x : Bool} {i : ℕ} {m n : ℕ} {a b failed : S} {y : DecodeError} → i ≡ optional_field_count t.root →
+        t.extensible ≡ x → m ≡ n + 1 → step a (begins k x i) b → UnreadTail step few t n b failed y → Unread step few (constructed_type k t) m a failed y
+    unread_constructed k t {x} {i} {m} {n} {a} {b} {failed} {y} e f l h u =
+        let r : Unread step few (constructed_type k t) (suc n) a failed y = record {
+          none = λ w start near v c g p.
+              let j = carries (begins k x i) a b failed start (begins_keep k x i) h near in
+              let q = form_parts t n k v g in
+              let r = subst (λ rs. Chain step rs start c) q.3 p in
+              let o = form_question k t.extensible (optional_field_count t.root) ∙ asked_alike k t e f ∙ sym (form_question k x i) in
+              let s = (one start (begins k t.extensible (optional_field_count t.root)) (begins k x i) r.0 j.0 o r.1 j.1).1 in
+              u.none w j.0 j.2 q.0 q.1 c q.2 (subst (λ (z : S). Chain step (tail_records n t q.0 q.1) z c) s r.2);
         } in
-        subst (λ (i : ℕ). Unread step few (sequence_type t) i a failed y) (let z : suc n ≡ m = omega arith in z) r
+        subst (λ (j : ℕ). Unread step few (constructed_type k t) j a failed y) (let z : suc n ≡ m = omega arith in z) r
 
     module _ (values : CarriesValues step few) where
       pub unread_field : (ts : List Tag) {o : Presence} {s : ℕ →

@@ -3,7 +3,7 @@ ghost use Rattle.std.specs.Prelude.{◌≡◌, ◌+◌, false, OnOk, OnErr, IfEr
 ghost use Rattle.asn1_model.specs.Value.{fields, same};
 ghost use Rattle.asn1_model.specs.Schema.{optional, by_default};
 ghost use Rattle.asn1_schema_constraints.specs.Terms.{meant};
-ghost use Rattle.asn1_schema_laws.specs.Tables.{presence_bits, sequence_type};
+ghost use Rattle.asn1_schema_laws.specs.Tables.{optional_field_count, sequence_type};
 ghost use Rattle.asn1_schema_laws.specs.Parts.{part_of, part_unless};
 ghost use Rattle.asn1_schema_decode.specs.Reads.{Reads, Unread, ReadsPart, UnreadPart, ReadsOptional, UnreadOptional};
 ghost use Rattle.asn1_schema_decode.specs.Reads.{ReadsDefault, UnreadDefault, ReadsTail, UnreadTail};
@@ -262,7 +262,7 @@ pub trait DecodeSequence: Decoder {
     ) -> Result<C, DecodeError>
     where
         Self: Sized,
-        requires presence_bits { optional ≡ presence_bits C.table.root }
+        requires presence_bits { optional ≡ optional_field_count C.table.root }
         requires plain { C.table.extensible ≡ false }
         ensures ok { IfOk result
             (λ x. Reads Self.step (sequence_type C.table) (Self.levels self.old) (fields (C.root x) (C.added x))

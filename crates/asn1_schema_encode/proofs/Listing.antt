@@ -1,22 +1,19 @@
 -- How lists are written and read.
-use Rattle.std.proofs.Common.{◌≡◌, ℕ, ◌+◌, ◌<◌, ◌≤◌, zero, suc, true, false, List, [], ◌∷◌, ◌++◌, refl, subst, sym, ◌∙◌, ap, length, drop, get_or, add-one, drop-cons}
+use Rattle.std.proofs.Common.{◌≡◌, ℕ, ◌+◌, ◌<◌, ◌≤◌, zero, suc, true, false, List, ◌∷◌, ◌++◌, refl, subst, sym, ◌∙◌, ap, length, drop, get_or, add-one, drop-cons}
 use Rattle.std.proofs.lemmas.List.{drop_all}
-use Rattle.asn1_model.specs.Value.{Value, Values, no_more, member, members}
-use Rattle.asn1_model.specs.Schema.{Schema, Size, Counts, sequence_of}
+use Rattle.asn1_model.specs.Value.{Value, Values, no_more, member}
+use Rattle.asn1_model.specs.Schema.{Schema, Size, Counts}
 use Rattle.asn1_schema_errors.specs.declared.EncodeError.{EncodeError}
-use Rattle.asn1_schema_laws.specs.Records.{Record, list_begins, further, ends}
+use Rattle.asn1_schema_laws.specs.Records.{Record, further, ends}
 use Rattle.asn1_model.specs.Lawful.{member_count}
 use Rattle.asn1_schema_laws.specs.Presents.{presents, member_records, Fits}
 use Rattle.asn1_schema_laws.specs.Parts.{values_of}
-use Rattle.asn1_schema_laws.specs.Tables.{scope, list_type}
+use Rattle.asn1_schema_laws.specs.Forms.{Form}
 use Rattle.asn1_schema_laws.specs.Chains.{Chain, OneAfter}
 use Rattle.asn1_schema_laws.proofs.Chains.{chain_append, chain_split}
+use Rattle.asn1_schema_laws.proofs.Forms.{listed_type, listed, begins_list, no_list, elements_fit, list_records}
 use Rattle.asn1_schema_encode.specs.Writes.{Refused, Writes, CannotWrite, WritesMembers, CannotWriteMembers}
 use Rattle.asn1_schema_encode.proofs.Writing.{cannot_later}
-
-pub count_values : {A : Type 0} (f : A → Value) (xs : List A) → member_count (values_of f xs) ≡ length xs
-count_values f [] = refl
-count_values f (x ∷ xs) = ap suc (count_values f xs)
 
 module _ {S : Type 0} {step : S → Record → S → Type 0} {s : ℕ → Schema} where
   pub writes_no_more : {a : S} (b : S) {c : S} → step a (further false) b → step b ends c → WritesMembers step s no_more a c
@@ -51,31 +48,33 @@ module _ {S : Type 0} {step : S → Record → S → Type 0} {s : ℕ → Schema
           cannot_later one _ _ b c d (h.chain n f.0) (k.none w n d f.1) q;
     }
 
-module _ {S : Type 0} {step : S → Record → S → Type 0} (s : ℕ → Schema) (z : Size) (h : Counts) where
-  pub writes_list : {vs : Values} {a b c : S} → step a (list_begins z h (member_count vs)) b → WritesMembers step s vs b c → Writes step (list_type z h s) (members vs) a c
-  unfolding list_type scope presents Fits
+-- SEQUENCE OF and SET OF
+module _ {S : Type 0} {step : S → Record → S → Type 0} (k : Form) (s : ℕ → Schema) (z : Size) (h : Counts) where
+  pub writes_list : {vs : Values} {a b c : S} → step a (begins_list k z h (member_count vs)) b → WritesMembers step s vs b c → Writes step (listed_type k z h s) (listed k vs) a c
   writes_list {vs} {a} {b} {c} p w = record {
-    chain =
-        λ n. elim n as (λ n. Fits (scope n (λ m. sequence_of z h (s m))) (members vs) →
-        Chain step (presents (scope n (λ m. sequence_of z h (s m))) (members vs)) a c) [ zero ↦ λ f. absurd f | suc j ↦ λ f. (b, p, w.chain j f) ];
+    chain = λ n. elim n as (λ n. Fits (listed_type k z h s n) (listed k vs) → Chain step (presents (listed_type k z h s n) (listed k vs)) a c) [
+      | zero ↦ λ f. absurd (no_list z h s k (listed k vs) f)
+      | suc j ↦ λ f. subst (λ rs. Chain step rs a c) (sym (list_records z h s j k vs)) (b, p, w.chain j (elements_fit z h s j k vs f))
+    ];
   }
 
-  pub cannot_list_here : (vs : Values) {a : S} {x : EncodeError} → Refused step (list_begins z h (member_count vs)) a x → CannotWrite step (list_type z h s) (members vs) a x
-  unfolding list_type scope presents Fits
-  cannot_list_here vs {a} k = record {
-    none =
-        λ w n c. elim n as (λ n. Fits (scope n (λ m. sequence_of z h (s m))) (members vs) →
-        Chain step (presents (scope n (λ m. sequence_of z h (s m))) (members vs)) a c → ⊥) [ zero ↦ λ f p. f | suc j ↦ λ f p. k.none w p.0 p.1 ];
+  pub cannot_list_here : (vs : Values) {a : S} {x : EncodeError} → Refused step (begins_list k z h (member_count vs)) a x → CannotWrite step (listed_type k z h s) (listed k vs) a x
+  cannot_list_here vs {a} r = record {
+    none = λ w n c. elim n as (λ n. Fits (listed_type k z h s n) (listed k vs) → Chain step (presents (listed_type k z h s n) (listed k vs)) a c → ⊥) [
+      | zero ↦ λ f p. no_list z h s k (listed k vs) f
+      | suc j ↦ λ f p. let q = subst (λ rs. Chain step rs a c) (list_records z h s j k vs) p in r.none w q.0 q.1
+    ];
   }
 
-  pub cannot_list : OneAfter step → {vs : Values} {a b : S} {x : EncodeError} → step a (list_begins z h (member_count vs)) b →
-      CannotWriteMembers step s vs b x → CannotWrite step (list_type z h s) (members vs) a x
-  unfolding list_type scope presents Fits
-  cannot_list one {vs} {a} {b} i k = record {
-    none =
-        λ w n c. elim n as (λ n. Fits (scope n (λ m. sequence_of z h (s m))) (members vs) →
-        Chain step (presents (scope n (λ m. sequence_of z h (s m))) (members vs)) a c →
-        ⊥) [ zero ↦ λ f p. f | suc j ↦ λ f p. k.none w j c f (subst (λ (y : S). Chain step (member_records (λ v. presents (s j) v) vs) y c) (one a _ _ _ p.1 i) p.2) ];
+  pub cannot_list : OneAfter step → {vs : Values} {a b : S} {x : EncodeError} → step a (begins_list k z h (member_count vs)) b →
+      CannotWriteMembers step s vs b x → CannotWrite step (listed_type k z h s) (listed k vs) a x
+  cannot_list one {vs} {a} {b} i u = record {
+    none = λ w n c. elim n as (λ n. Fits (listed_type k z h s n) (listed k vs) → Chain step (presents (listed_type k z h s n) (listed k vs)) a c → ⊥) [
+      | zero ↦ λ f p. no_list z h s k (listed k vs) f
+      | suc j ↦ λ f p.
+          let q = subst (λ rs. Chain step rs a c) (list_records z h s j k vs) p in
+          u.none w j c (elements_fit z h s j k vs f) (subst (λ (y : S). Chain step (member_records (λ v. presents (s j) v) vs) y c) (one a _ _ _ q.1 i) q.2)
+    ];
   }
 
 -- a loop over the items: what is to be written after the first i of them

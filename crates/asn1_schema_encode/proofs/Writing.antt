@@ -1,19 +1,21 @@
 -- How what an encoder accepts is put together.
 use Rattle.std.proofs.Common.{◌≡◌, ℕ, zero, suc, Bool, true, false, List, ◌++◌, refl, subst, sym}
 use Rattle.asn1_model.specs.Value.{Value, fields, Parts, end, same}
-use Rattle.asn1_model.specs.Schema.{Tag, Presence, required, optional, by_default, Schema, sequence}
+use Rattle.asn1_model.specs.Schema.{Tag, Presence, required, optional, by_default, Schema}
 use Rattle.asn1_model.specs.Normal.{normal, is_at_default}
 use Rattle.asn1_model.specs.Normal.{is_required}
 use Rattle.asn1_schema_errors.specs.declared.EncodeError.{EncodeError}
-use Rattle.asn1_schema_laws.specs.Records.{Record, sequence_begins, presence_bit, ends}
+use Rattle.asn1_schema_laws.specs.Records.{Record, presence_bit, ends}
 use Rattle.asn1_schema_laws.specs.Presents.{Part, left_out, there, with_part, presents, part_records, root_records, added_records, Fits}
-use Rattle.asn1_schema_laws.specs.Tables.{Table, no_table, with_field, components_at, presence_bits, scope, sequence_type, IsType, IsValue}
+use Rattle.asn1_schema_laws.specs.Tables.{Table, no_table, with_field, components_at, optional_field_count, IsType, IsValue}
+use Rattle.asn1_schema_laws.specs.Forms.{Form, constructed_type, begins}
 use Rattle.asn1_schema_laws.specs.Chains.{Chain, OneAfter}
 use Rattle.asn1_schema_laws.proofs.Chains.{chain_append, chain_split, chain_rest}
 use Rattle.asn1_schema_laws.specs.Parts.{part_unless, tail_records}
 use Rattle.asn1_schema_encode.specs.Writes.{Refused, Writes, CannotWrite, WritesPart, CannotWritePart, WritesPresent, CannotWritePresent, WritesUnless, CannotWriteUnless, WritesTail, CannotWriteTail}
 use Rattle.asn1_schema_laws.proofs.Values.{not_empty}
-use Rattle.asn1_schema_laws.proofs.Joined.{is_there, presence_bits_at, nothing_noted, tail_field, tail_fits, there_records, present_records}
+use Rattle.asn1_schema_laws.proofs.Forms.{no_fields, tail_fits_form, form_records}
+use Rattle.asn1_schema_laws.proofs.Joined.{is_there, nothing_noted, tail_field, tail_fits, there_records, present_records}
 
 module _ {S : Type 0} {step : S → Record → S → Type 0} where
   pub writes_required : {ts : List Tag} {s : ℕ → Schema} {v : Value} {a b : S} → IsType ts s → Writes step s v a b → WritesPart step required s (there v) a b
@@ -55,28 +57,6 @@ module _ {S : Type 0} {step : S → Record → S → Type 0} where
         h.none w n r.0 g.0 r.1;
   }
 
-  pub writes_sequence : (t : Table) {ps qs : Parts} {a b c : S} → step a (sequence_begins t.extensible (presence_bits t.root)) b →
-      WritesTail step t ps qs b c → Writes step (sequence_type t) (fields ps qs) a c
-  unfolding sequence_type scope presents Fits
-  writes_sequence t {ps} {qs} {a} {b} {c} h w =
-      record {
-        chain = λ n. elim n as (λ n. Fits
-            (scope n (λ m. sequence (components_at m t.root) t.extensible (components_at m t.additions))) (fields ps qs) →
-            Chain step (presents (scope n (λ m. sequence (components_at m t.root) t.extensible (components_at m t.additions)))
-            (fields ps qs)) a c) [ zero ↦ λ f. absurd f | suc j ↦ λ f. (b, subst (λ (i : ℕ). step a (sequence_begins t.extensible i) b) (sym (presence_bits_at j t.root)) h, w.chain j f) ];
-      }
-
-  pub cannot_sequence_here : (t : Table) (ps qs : Parts) {a : S} {e : EncodeError} →
-      Refused step (sequence_begins t.extensible (presence_bits t.root)) a e → CannotWrite step (sequence_type t) (fields ps qs) a e
-  unfolding sequence_type scope presents Fits
-  cannot_sequence_here t ps qs {a} h = record {
-    none =
-        λ w n c. elim n as (λ n. Fits (scope n (λ m. sequence (components_at m t.root) t.extensible (components_at m t.additions)))
-        (fields ps qs) → Chain step (presents (scope n
-        (λ m. sequence (components_at m t.root) t.extensible (components_at m t.additions))) (fields ps qs)) a c →
-        ⊥) [ zero ↦ λ f p. f | suc j ↦ λ f p. h.none w p.0 (subst (λ (i : ℕ). step a (sequence_begins t.extensible i) p.0) (presence_bits_at j t.root) p.1) ];
-  }
-
   module _ (one : OneAfter step) where
     pub cannot_later : (xs ys : List Record) (a b c : S) → Chain step xs a b → (Chain step ys b c → ⊥) → Chain step (xs ++ ys) a c → ⊥
     cannot_later xs ys a b c h k p = k (chain_rest step one _ _ _ _ _ h p)
@@ -89,21 +69,6 @@ module _ {S : Type 0} {step : S → Record → S → Type 0} where
           let g = tail_fits n ts o s t x ps qs f in
           cannot_later _ _ a b c (h.chain n g.0) (k.none w n c g.1) (subst (λ rs. Chain step rs a c) (tail_field n ts o s t x ps qs) p);
     }
-
-    pub cannot_sequence : (t : Table) {ps qs : Parts} {a b : S} {e : EncodeError} →
-        step a (sequence_begins t.extensible (presence_bits t.root)) b → CannotWriteTail step t ps qs b e → CannotWrite step (sequence_type t) (fields ps qs) a e
-    unfolding sequence_type scope presents Fits
-    cannot_sequence t {ps} {qs} {a} {b} h z =
-        record {
-          none = λ w n c. elim n as (λ n. Fits
-              (scope n (λ m. sequence (components_at m t.root) t.extensible (components_at m t.additions))) (fields ps qs) →
-              Chain step (presents (scope n (λ m. sequence (components_at m t.root) t.extensible (components_at m t.additions)))
-              (fields ps qs)) a c → ⊥) [
-                | zero ↦ λ f p. f
-                | suc j ↦ λ f p. z.none w j c f
-                    (subst (λ (s : S). Chain step (tail_records j t ps qs) s c) (one _ _ _ _ (subst (λ (i : ℕ). step a (sequence_begins t.extensible i) p.0) (presence_bits_at j t.root) p.1) h) p.2)
-              ];
-        }
 
 -- components that may be absent
 module _ {S : Type 0} {step : S → Record → S → Type 0} where
@@ -128,23 +93,40 @@ module _ {S : Type 0} {step : S → Record → S → Type 0} where
             (sym (present_records o (s n) v r (nothing_noted o (s n) v (not_empty (s n) (normal (s n) v) (t.no_group n)) (d n)))) (b, m, h.chain n f);
       }
 
--- SEQUENCE types, by their tables
-module _ {S : Type 0} (step : S → Record → S → Type 0) (t : Table) {x : Bool} {k : ℕ} (e : k ≡ presence_bits t.root) (f : t.extensible ≡ x) where
-  by_table : {a b : S} → step a (sequence_begins x k) b → step a (sequence_begins t.extensible (presence_bits t.root)) b
-  by_table {a} {b} h = subst (λ (i : ℕ). step a (sequence_begins t.extensible i) b) e (subst (λ (y : Bool). step a (sequence_begins y k) b) (sym f) h)
+-- SEQUENCE and SET types, by their tables
+module _ {S : Type 0} (step : S → Record → S → Type 0) (k : Form) (t : Table) {x : Bool} {i : ℕ} (e : i ≡ optional_field_count t.root) (f : t.extensible ≡ x) where
+  by_table : {a b : S} → step a (begins k x i) b → step a (begins k t.extensible (optional_field_count t.root)) b
+  by_table {a} {b} h = subst (λ (j : ℕ). step a (begins k t.extensible j) b) e (subst (λ (y : Bool). step a (begins k y i) b) (sym f) h)
 
-  not_by_table : {a b : S} → step a (sequence_begins t.extensible (presence_bits t.root)) b → step a (sequence_begins x k) b
-  not_by_table {a} {b} h = subst (λ (i : ℕ). step a (sequence_begins x i) b) (sym e) (subst (λ (y : Bool). step a (sequence_begins y (presence_bits t.root)) b) f h)
+  not_by_table : {a b : S} → step a (begins k t.extensible (optional_field_count t.root)) b → step a (begins k x i) b
+  not_by_table {a} {b} h = subst (λ (j : ℕ). step a (begins k x j) b) (sym e) (subst (λ (y : Bool). step a (begins k y (optional_field_count t.root)) b) f h)
 
-  pub writes_this : {ps qs : Parts} {a b c : S} → step a (sequence_begins x k) b → WritesTail step t ps qs b c → Writes step (sequence_type t) (fields ps qs) a c
-  writes_this h w = writes_sequence t (by_table h) w
+  pub writes_constructed : {ps qs : Parts} {a b c : S} → step a (begins k x i) b → WritesTail step t ps qs b c → Writes step (constructed_type k t) (fields ps qs) a c
+  writes_constructed {ps} {qs} {a} {b} {c} h w = record {
+    chain = λ n. elim n as (λ n. Fits (constructed_type k t n) (fields ps qs) → Chain step (presents (constructed_type k t n) (fields ps qs)) a c) [
+      | zero ↦ λ g. absurd (no_fields t k (fields ps qs) g)
+      | suc j ↦ λ g. subst (λ rs. Chain step rs a c) (sym (form_records t j k ps qs)) (b, by_table h, w.chain j (tail_fits_form t j k ps qs g))
+    ];
+  }
 
-  pub cannot_this_here : (ps qs : Parts) {a : S} {y : EncodeError} → Refused step (sequence_begins x k) a y → CannotWrite step (sequence_type t) (fields ps qs) a y
-  cannot_this_here ps qs h = cannot_sequence_here t ps qs (record { none = λ w b p. h.none w b (not_by_table p) })
+  pub cannot_constructed_here : (ps qs : Parts) {a : S} {y : EncodeError} → Refused step (begins k x i) a y → CannotWrite step (constructed_type k t) (fields ps qs) a y
+  cannot_constructed_here ps qs {a} h = record {
+    none = λ w n c. elim n as (λ n. Fits (constructed_type k t n) (fields ps qs) → Chain step (presents (constructed_type k t n) (fields ps qs)) a c → ⊥) [
+      | zero ↦ λ g p. no_fields t k (fields ps qs) g
+      | suc j ↦ λ g p. let q = subst (λ rs. Chain step rs a c) (form_records t j k ps qs) p in h.none w q.0 (not_by_table q.1)
+    ];
+  }
 
-  pub cannot_this : OneAfter step → {ps qs : Parts} {a b : S} {y : EncodeError} → step a (sequence_begins x k) b →
-      CannotWriteTail step t ps qs b y → CannotWrite step (sequence_type t) (fields ps qs) a y
-  cannot_this one h w = cannot_sequence one t (by_table h) w
+  pub cannot_constructed : OneAfter step → {ps qs : Parts} {a b : S} {y : EncodeError} → step a (begins k x i) b →
+      CannotWriteTail step t ps qs b y → CannotWrite step (constructed_type k t) (fields ps qs) a y
+  cannot_constructed one {ps} {qs} {a} {b} h z = record {
+    none = λ w n c. elim n as (λ n. Fits (constructed_type k t n) (fields ps qs) → Chain step (presents (constructed_type k t n) (fields ps qs)) a c → ⊥) [
+      | zero ↦ λ g p. no_fields t k (fields ps qs) g
+      | suc j ↦ λ g p.
+          let q = subst (λ rs. Chain step rs a c) (form_records t j k ps qs) p in
+          z.none w j c (tail_fits_form t j k ps qs g) (subst (λ (s : S). Chain step (tail_records j t ps qs) s c) (one a (begins k x i) q.0 b (not_by_table q.1) h) q.2)
+    ];
+  }
 
 -- another form of the same type
 pub writes_as : {S : Type 0} {step : S → Record → S → Type 0} (s t : ℕ → Schema) {v : Value} {a b : S} → ((n : ℕ) → t n ≡ s n) → Writes step s v a b → Writes step t v a b

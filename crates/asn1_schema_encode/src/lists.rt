@@ -1,10 +1,10 @@
 //! How SEQUENCE OF types are encoded.
 
-ghost use Rattle.std.specs.Prelude.{◌≡◌, OnOk, OnErr, IfErr};
+ghost use Rattle.std.specs.Prelude.{◌≡◌, Err, OnOk, OnErr, IfErr};
 ghost use Rattle.asn1_model.specs.Value.{members};
 ghost use Rattle.asn1_schema_laws.specs.Parts.{values_of};
 ghost use Rattle.asn1_schema_types.specs.Told.{list_under};
-ghost use Rattle.asn1_schema_encode.specs.Writes.{Writes, CannotWrite};
+ghost use Rattle.asn1_schema_encode.specs.Writes.{Writes, CannotWrite, WritesMembers, CannotWriteMembers};
 ghost use Rattle.asn1_schema_errors.specs.Calls.{EncoderCall};
 
 use crate::encode::{Encode, Encoder};
@@ -32,14 +32,35 @@ pub trait EncodeList: Encoder {
         ensures call { EncoderCall Self.has_failed Self.front self.old self.new result }
     {
         self.begin_list(tag, constraints, held, items.len())?;
-        for item in items {
-            self.encode_further(true)?;
-            item.encode(self)?;
-        }
-        self.encode_further(false)?;
-        self.end()?;
+        encode_members(self, items)?;
         Ok(())
     }
 }
 
 impl<E: Encoder> EncodeList for E {}
+
+/// Encodes the elements of a SEQUENCE OF or SET OF that has begun, and its end.
+///
+/// # Errors
+///
+/// Those of an element and of the encoder.
+#[inline]
+pub fn encode_members<T: Encode, E: Encoder>(
+    encoder: &mut E,
+    items: &[T],
+) -> Result<(), EncodeError>
+    ensures ok { OnOk result
+        (WritesMembers E.step T.schema (values_of T.meaning items.now) encoder.old encoder.new) }
+    ensures only { IfErr result (CannotWriteMembers E.step T.schema (values_of T.meaning items.now) encoder.old) }
+    ensures failed { OnErr result (E.has_failed encoder.new) }
+    ensures front { E.front encoder.new ≡ E.front encoder.old }
+    ensures after { result ≡ Err EncodeError.AlreadyFailed → E.has_failed encoder.old }
+{
+    for item in items {
+        encoder.encode_further(true)?;
+        item.encode(encoder)?;
+    }
+    encoder.encode_further(false)?;
+    encoder.end()?;
+    Ok(())
+}

@@ -1,6 +1,7 @@
 -- T ::= SEQUENCE {value INTEGER, branches SEQUENCE OF T}: the type and its values.
 use Rattle.std.specs.Prelude.{◌≡◌, ℕ, zero, suc, refl, List, [], ◌∷◌, map}
 use Rattle.std.proofs.Common.{ap, sym, subst, ◌∙◌}
+use Rattle.asn1_schema.specs.Author.{sequence_form}
 use Rattle.asn1_schema.specs.Author.{IsType, IsValue, Parts, Schema, Table, Value, Values, any_number_held, any_size}
 use Rattle.asn1_schema.specs.Author.{components_at, cut, end, fields, is_lawful, is_tidy, list_type, member}
 use Rattle.asn1_schema.specs.Author.{members, no_more, no_table, number, required, scope, sequence_type, there}
@@ -52,7 +53,7 @@ sequence_typed {s} t = type_sequence (tree_table s) refl
     (more_types _ required (λ _. refl) number_typed (more_types _ required (λ _. refl) t no_types)) refl
 
 list_typed : {s : ℕ → Schema} → IsSequence s → IsSequence (list_type any_size any_number_held s)
-list_typed t = type_list any_size any_number_held refl refl t
+list_typed t = type_list sequence_form any_size any_number_held refl refl t
 
 mutual
   unfolding tree_schema branches_schema is_lawful is_tidy
@@ -145,7 +146,7 @@ branches_valued : (xs : List ((x : Tree) × IsTree x))
     → IsValue branches_schema (members (values_of tree_meaning (map (λ e. e.0) xs)))
 branches_valued xs = subst (λ vs. IsValue branches_schema (members vs)) (sym (values_each xs))
     (value_as (list_type any_size any_number_held tree_schema) branches_schema branches_are
-    (value_list any_size any_number_held tree_schema (λ e. tree_meaning e.0) xs (λ e. e.1)))
+    (value_list sequence_form any_size any_number_held tree_schema (λ e. tree_meaning e.0) xs (λ e. e.1)))
 
 parts_valued : (t : Tree-F Tree) → IsValue branches_schema (members (values_of tree_meaning t.branches.items))
     → IsTree (roll-Tree t)

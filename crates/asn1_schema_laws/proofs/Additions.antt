@@ -1,17 +1,15 @@
 -- Types and values of additions, built from those of their parts.
-use Rattle.std.proofs.Common.{ℕ, ◌≤◌, List, refl, ◌∙◌, ap, arith}
-use Rattle.std.specs.Prelude.{max}
+use Rattle.std.proofs.Common.{ℕ, List, refl, ◌∙◌, ap}
 use Rattle.std.proofs.lemmas.Bool.{and_parts}
-use Rattle.std.proofs.Math.Nat.{le-max_left, le-max_right}
-use Rattle.asn1_model.specs.Value.{Parts, end, depth, depth_of_parts}
+use Rattle.asn1_model.specs.Value.{Parts, end}
 use Rattle.asn1_model.specs.Schema.{Tag, Presence, Schema}
 use Rattle.asn1_model.specs.Normal.{normal_parts}
 use Rattle.asn1_model.specs.Tidy.{has_normal_default, are_tidy}
 use Rattle.asn1_model.specs.Lawful.{are_lawful, has_typed_default}
-use Rattle.asn1_schema_laws.specs.Presents.{Part, left_out, there, with_part, PartsFit}
+use Rattle.asn1_schema_laws.specs.Presents.{Part, with_part, PartsFit}
 use Rattle.asn1_schema_laws.specs.Tables.{Fields, no_field, field, components_at, IsType}
-use Rattle.asn1_schema_laws.specs.Typed.{AreTypes, AreValues, HasDefault, part_depth, IsPart}
-use Rattle.asn1_schema_laws.proofs.Values.{normal_field, fits_field}
+use Rattle.asn1_schema_laws.specs.Typed.{AreTypes, AreValues, HasDefault, IsPart}
+use Rattle.asn1_schema_laws.proofs.Values.{normal_field, fits_field, depth_field}
 use Rattle.asn1_schema_laws.specs.Additions.{extensible_table, IsAddition, AreAdditionTypes, AreAdditionValues}
 
 -- ---- types
@@ -50,15 +48,6 @@ extensible_types h = record {
 pub no_addition_values : AreAdditionValues no_field end
 unfolding components_at PartsFit normal_parts
 no_addition_values = record { fits = λ n le. tt; normal = λ n. refl }
-
-depth_field : (x : Part) (ps : Parts) (n : ℕ) → depth_of_parts (with_part x ps) ≤ n → (part_depth x ≤ n) × (depth_of_parts ps ≤ n)
-unfolding depth_of_parts
-depth_field left_out ps n h = ((let z : 0 ≤ n = omega arith in z), h)
-depth_field (there v) ps n h =
-    let a : depth v ≤ max (depth v) (depth_of_parts ps) = le-max_left _ _ in
-    let b : depth_of_parts ps ≤ max (depth v) (depth_of_parts ps) = le-max_right _ _ in
-    let k : max (depth v) (depth_of_parts ps) ≤ n = h in
-    ((let z : depth v ≤ n = omega arith in z), (let z : depth_of_parts ps ≤ n = omega arith in z))
 
 pub more_addition_values : (ts : List Tag) {o : Presence} {s : ℕ → Schema} {fs : Fields} {x : Part} {qs : Parts} → IsPart o s x →
     AreAdditionValues fs qs → AreAdditionValues (field ts o s fs) (with_part x qs)

@@ -1,5 +1,5 @@
 -- Groups of additions: their types, and their values as additions (X.680 25.1).
-use Rattle.std.proofs.Common.{◌≡◌, ℕ, ◌≤◌, ◌+◌, zero, suc, Bool, true, false, List, ◌++◌, [], ◌∷◌, Option, Some, None, refl, sym, ◌∙◌, ap, arith}
+use Rattle.std.proofs.Common.{◌≡◌, ℕ, ◌≤◌, ◌+◌, zero, suc, Bool, true, false, ◌++◌, append-nil, [], Option, Some, None, refl, sym, ◌∙◌, ap, arith}
 use Rattle.std.specs.Prelude.{◌||◌, ◌&&◌, not, max}
 use Rattle.std.proofs.lemmas.Bool.{and_parts}
 use Rattle.asn1_model.specs.Value.{fields, Parts, end, absent, present, are_absent, depth, depth_of_parts}
@@ -16,10 +16,6 @@ use Rattle.asn1_schema_laws.proofs.Values.{tags_at}
 use Rattle.asn1_schema_laws.specs.Parts.{part_unless, normal_part}
 use Rattle.asn1_schema_laws.specs.Typed.{IsPart}
 use Rattle.asn1_schema_laws.specs.Additions.{IsAddition, group_type, IsGroup, group_part}
-
-append_nothing : {A : Type 0} (xs : List A) → xs ++ [] ≡ xs
-append_nothing [] = refl
-append_nothing (x ∷ xs) = ap (λ ys. x ∷ ys) (append_nothing xs)
 
 pub no_part : (n : ℕ) (qs : Parts) → PartsFit (components_at n no_field) qs → qs ≡ end
 unfolding components_at PartsFit
@@ -47,7 +43,7 @@ lawful_group cs e adds some none h =
     let b = and_parts (f && g && (are_groups_in_place false cs)) (are_groups_in_place true adds) i.0 in
     let d = and_parts (f && g) (are_groups_in_place false cs) b.0 in
     let c = and_parts f g d.0 in
-    let j : are_distinct tag_same (component_tags cs) ≡ true = ap (λ xs. are_distinct tag_same xs) (sym (append_nothing (component_tags cs)) ∙ ap (λ ys. component_tags cs ++ ys) (sym none)) ∙ c.1 in
+    let j : are_distinct tag_same (component_tags cs) ≡ true = ap (λ xs. are_distinct tag_same xs) (sym (append-nil (component_tags cs)) ∙ ap (λ ys. component_tags cs ++ ys) (sym none)) ∙ c.1 in
     rw (some, j, d.1, i.1) refl
 
 module _ {t : Table} (g : IsGroup t) where

@@ -1,5 +1,5 @@
 -- How the records of components are put together, for encoders and decoders.
-use Rattle.std.proofs.Common.{◌≡◌, ℕ, Bool, true, false, cond, List, [], ◌∷◌, ◌++◌, refl, subst, sym, ◌∙◌, ap, Result, Ok, Err}
+use Rattle.std.proofs.Common.{◌≡◌, ℕ, Bool, true, false, cond, List, [], ◌∷◌, ◌++◌, append-nil, refl, subst, sym, ◌∙◌, ap, Result, Ok, Err}
 use Rattle.std.specs.Result.{IfErr, IsErrAnd}
 use Rattle.asn1_model.specs.Value.{Value, Parts, same}
 use Rattle.asn1_model.specs.Schema.{Tag, Presence, required, optional, by_default, Schema}
@@ -7,7 +7,7 @@ use Rattle.asn1_model.specs.Normal.{is_at_default, is_group_left_out}
 use Rattle.asn1_model.specs.Normal.{is_required}
 use Rattle.asn1_schema_laws.specs.Records.{presence_bit}
 use Rattle.asn1_schema_laws.specs.Presents.{Part, left_out, there, with_part, presents, part_records, noted, root_records, optional_count, Fits, PartFits, PartsFit}
-use Rattle.asn1_schema_laws.specs.Tables.{Fields, no_field, field, Table, with_field, components_at, presence_bits, IsValue}
+use Rattle.asn1_schema_laws.specs.Tables.{Fields, no_field, field, Table, with_field, components_at, optional_field_count, IsValue}
 use Rattle.asn1_schema_laws.specs.Parts.{tail_records, TailFits}
 
 -- what a `?` passes on
@@ -20,14 +20,10 @@ abbrev pub is_there : Part → Bool
 is_there left_out = false
 is_there (there v) = true
 
-append_nothing : {A : Type 0} (xs : List A) → xs ++ [] ≡ xs
-append_nothing [] = refl
-append_nothing (x ∷ xs) = ap (λ ys. x ∷ ys) (append_nothing xs)
-
-pub presence_bits_at : (n : ℕ) (fs : Fields) → optional_count (components_at n fs) ≡ presence_bits fs
+pub optional_fields_at : (n : ℕ) (fs : Fields) → optional_count (components_at n fs) ≡ optional_field_count fs
 unfolding components_at
-presence_bits_at n no_field = refl
-presence_bits_at n (field ts o s fs) = rw (presence_bits_at n fs) refl
+optional_fields_at n no_field = refl
+optional_fields_at n (field ts o s fs) = rw (optional_fields_at n fs) refl
 
 -- nothing is noted after what the normal form keeps
 pub nothing_noted : (o : Presence) (s : Schema) (v : Value) → is_group_left_out s v ≡ false → is_at_default o s v ≡ false → noted o s v ≡ []
@@ -48,9 +44,9 @@ tail_fits n ts o s t (there v) ps qs f = (f.0.0, (f.0.1, f.1))
 
 -- a component that is present and has nothing noted after it
 pub there_records : (o : Presence) (s : Schema) (v : Value) → noted o s v ≡ [] → part_records (λ w. presents s w) o s (there v) ≡ cond (is_required o) (presents s v) (presence_bit true ∷ presents s v)
-there_records required s v e = rw e (append_nothing (presents s v))
-there_records optional s v e = rw e (ap (λ rs. presence_bit true ∷ rs) (append_nothing (presents s v)))
-there_records (by_default d) s v e = rw e (ap (λ rs. presence_bit true ∷ rs) (append_nothing (presents s v)))
+there_records required s v e = rw e (append-nil (presents s v))
+there_records optional s v e = rw e (ap (λ rs. presence_bit true ∷ rs) (append-nil (presents s v)))
+there_records (by_default d) s v e = rw e (ap (λ rs. presence_bit true ∷ rs) (append-nil (presents s v)))
 
 -- a value after its extension marker
 pub present_records : (o : Presence) (s : Schema) (v : Value) → is_required o ≡ false → noted o s v ≡ [] → part_records (λ w. presents s w) o s (there v) ≡ presence_bit true ∷ presents s v

@@ -4,8 +4,9 @@ pub mod Beginnings
 pub mod Values
 pub mod Same
 pub mod Defaults
-pub mod TypesByKind
 pub mod Joined
+pub mod Forms
+pub mod TypesByKind
 pub mod Recursive
 pub mod Levels
 pub mod Additions

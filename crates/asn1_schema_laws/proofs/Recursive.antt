@@ -15,7 +15,8 @@ cut_type : {ts : List Tag} → is_one_tag ts ≡ true → IsType ts (λ _. cut)
 unfolding is_lawful is_tidy
 cut_type {ts} e = record { tagged = λ n. tags_of_one ts cut refl e; lawful = λ n. refl; tidy = λ n. refl; no_group = λ n. refl }
 
-type_at : {ts : List Tag} {s : ℕ → Schema} → IsType ts s → (n : ℕ) → IsType ts (λ _. s n)
+-- a type at one number of levels
+pub type_at : {ts : List Tag} {s : ℕ → Schema} → IsType ts s → (n : ℕ) → IsType ts (λ _. s n)
 type_at h n = record { tagged = λ m. h.tagged n; lawful = λ m. h.lawful n; tidy = λ m. h.tidy n; no_group = λ m. h.no_group n }
 
 module _ {ts : List Tag} (f : (ℕ → Schema) → Table) (e : is_one_tag ts ≡ true) (h : (s : ℕ → Schema) → IsType ts s → AreTypes (f s))

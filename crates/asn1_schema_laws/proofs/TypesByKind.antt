@@ -1,17 +1,19 @@
 -- Types and values of each kind.
-use Rattle.std.proofs.Common.{◌≡◌, ℕ, ◌≤◌, ◌+◌, zero, suc, ℤ, Bool, true, false, List, [], ◌∷◌, refl, ap, ◌∙◌, arith}
+use Rattle.std.proofs.Common.{◌≡◌, ℕ, ◌≤◌, ◌+◌, zero, suc, ℤ, Bool, true, false, List, [], ◌∷◌, refl, subst, ap, ◌∙◌, arith}
 use Rattle.std.specs.Prelude.{max, ◌&&◌}
 use Rattle.std.proofs.Math.Nat.{le-max_left, le-max_right}
-use Rattle.asn1_model.specs.Value.{Value, truth, nothing, number, bit_list, octet_list, text, arcs, members, member, depth, depth_of_members, map_members}
-use Rattle.asn1_model.specs.Schema.{Tag, Range, Bounds, Counts, Size, Schema, boolean, null, integer, bit_string, octet_string, character_string, object_identifier, StringKind, Alphabet, sequence_of}
+use Rattle.asn1_model.specs.Value.{Value, truth, nothing, number, bit_list, octet_list, text, arcs, member, depth, depth_of_members, map_members}
+use Rattle.asn1_model.specs.Schema.{Tag, Range, Bounds, Counts, Size, Schema, boolean, null, integer, bit_string, octet_string, character_string, object_identifier, StringKind, Alphabet}
 use Rattle.asn1_model.specs.Normal.{normal}
 use Rattle.asn1_model.specs.Tidy.{is_tidy}
 use Rattle.asn1_model.specs.Lawful.{is_lawful, is_group, is_range, is_tag, smallest, are_counts}
 use Rattle.std.proofs.lemmas.Bool.{and_parts}
 use Rattle.asn1_schema_laws.specs.Presents.{Fits, AllFit}
 use Rattle.asn1_schema_laws.specs.Parts.{values_of}
-use Rattle.asn1_schema_laws.specs.Tables.{scope, list_type, is_one_tag, IsType, IsValue}
+use Rattle.asn1_schema_laws.specs.Tables.{scope, list_type, bag_type, is_one_tag, IsType, IsValue}
+use Rattle.asn1_schema_laws.specs.Forms.{Form, sequence_form, set_form}
 use Rattle.asn1_schema_laws.proofs.Beginnings.{tags_of_one, smallest_is_tag}
+use Rattle.asn1_schema_laws.proofs.Forms.{listed_type, listed, depth_of_list, list_fits, normal_list}
 
 -- a type under another tag
 pub retagged : {ts us : List Tag} {s : ℕ → Schema} → is_one_tag ts ≡ true → IsType us s → IsType ts s
@@ -79,18 +81,35 @@ pub identifier_value : (ns : List ℕ) → IsValue (λ _. object_identifier) (ar
 unfolding Fits normal
 identifier_value ns = record { fits = λ n le. tt; normal = λ n. refl }
 
-list_is_no_group : (z : Size) (h : Counts) (s : ℕ → Schema) (n : ℕ) → is_group (list_type z h s n) ≡ false
-unfolding list_type scope
-list_is_no_group z h s zero = refl
-list_is_no_group z h s (suc m) = refl
+-- SEQUENCE OF and SET OF
+no_group_list : (k : Form) (z : Size) (h : Counts) (s : ℕ → Schema) (n : ℕ) → is_group (listed_type k z h s n) ≡ false
+unfolding list_type bag_type scope
+no_group_list sequence_form z h s zero = refl
+no_group_list sequence_form z h s (suc m) = refl
+no_group_list set_form z h s zero = refl
+no_group_list set_form z h s (suc m) = refl
 
-pub type_list : {ts us : List Tag} (z : Size) (h : Counts) {s : ℕ → Schema} → is_one_tag ts ≡ true → (are_counts z.counts && are_counts h) ≡ true → IsType us s → IsType ts (list_type z h s)
-unfolding list_type scope is_lawful is_tidy
-type_list {ts} z h {s} e k t = record {
-  tagged = λ n. tags_of_one ts (list_type z h s n) (list_is_no_group z h s n) e;
-  lawful = λ n. elim n as (λ n. is_lawful (scope n (λ m. sequence_of z h (s m))) ≡ true) [ zero ↦ refl | suc m ↦ rw (k, t.no_group m) (t.lawful m) ];
-  tidy = λ n. elim n as (λ n. is_tidy (scope n (λ m. sequence_of z h (s m))) ≡ true) [ zero ↦ refl | suc m ↦ t.tidy m ];
-  no_group = λ n. elim n as (λ n. is_group (scope n (λ m. sequence_of z h (s m))) ≡ false) [ zero ↦ refl | suc m ↦ refl ];
+tidy_list : (k : Form) (z : Size) (h : Counts) (s : ℕ → Schema) → ((n : ℕ) → is_tidy (s n) ≡ true) → (n : ℕ) → is_tidy (listed_type k z h s n) ≡ true
+unfolding list_type bag_type scope is_tidy
+tidy_list sequence_form z h s t zero = refl
+tidy_list sequence_form z h s t (suc m) = t m
+tidy_list set_form z h s t zero = refl
+tidy_list set_form z h s t (suc m) = t m
+
+lawful_list : (k : Form) (z : Size) (h : Counts) {us : List Tag} {s : ℕ → Schema} → (are_counts z.counts && are_counts h) ≡ true → IsType us s → (n : ℕ) → is_lawful (listed_type k z h s n) ≡ true
+unfolding list_type bag_type scope is_lawful
+lawful_list sequence_form z h e t zero = refl
+lawful_list sequence_form z h e t (suc m) = rw (e, t.no_group m) (t.lawful m)
+lawful_list set_form z h e t zero = refl
+lawful_list set_form z h e t (suc m) = rw (e, t.no_group m) (t.lawful m)
+
+pub type_list : {ts us : List Tag} (k : Form) (z : Size) (h : Counts) {s : ℕ → Schema} → is_one_tag ts ≡ true →
+    (are_counts z.counts && are_counts h) ≡ true → IsType us s → IsType ts (listed_type k z h s)
+type_list {ts} k z h {s} e c t = record {
+  tagged = λ n. tags_of_one ts (listed_type k z h s n) (no_group_list k z h s n) e;
+  lawful = lawful_list k z h c t;
+  tidy = tidy_list k z h s t.tidy;
+  no_group = no_group_list k z h s;
 }
 
 all_fit : {A : Type 0} (s : ℕ → Schema) (f : A → Value) → ((x : A) → IsValue s (f x)) → (xs : List A) (n : ℕ) → depth_of_members (values_of f xs) ≤ n → AllFit (λ v. Fits (s n) v) (values_of f xs)
@@ -106,12 +125,21 @@ all_normal : {A : Type 0} (s : ℕ → Schema) (f : A → Value) → ((x : A) �
 all_normal s f h [] n = refl
 all_normal s f h (x ∷ xs) n = ap (λ v. member v (map_members (λ v. normal (s n) v) (values_of f xs))) ((h x).normal n) ∙ ap (λ vs. member (f x) vs) (all_normal s f h xs n)
 
-pub value_list : {A : Type 0} (z : Size) (h : Counts) (s : ℕ → Schema) (f : A → Value) (xs : List A) → ((x : A) → IsValue s (f x)) → IsValue (list_type z h s) (members (values_of f xs))
-unfolding list_type scope normal depth Fits
-value_list z h s f xs k = record {
-  fits = λ n. elim n as (λ n. depth (members (values_of f xs)) ≤ n → Fits (scope n (λ m. sequence_of z h (s m))) (members (values_of f xs))) [
-    | zero ↦ λ le. absurd (let y : depth_of_members (values_of f xs) + 1 ≤ 0 = le in omega arith)
-    | suc m ↦ λ le. let y : depth_of_members (values_of f xs) + 1 ≤ suc m = le in all_fit s f k xs m (let w : depth_of_members (values_of f xs) ≤ m = omega arith in w)
+cut_list : (k : Form) (z : Size) (h : Counts) (s : ℕ → Schema) (v : Value) → normal (listed_type k z h s zero) v ≡ v
+unfolding list_type bag_type scope normal
+cut_list sequence_form z h s v = refl
+cut_list set_form z h s v = refl
+
+pub value_list : {A : Type 0} (k : Form) (z : Size) (h : Counts) (s : ℕ → Schema) (f : A → Value) (xs : List A) →
+    ((x : A) → IsValue s (f x)) → IsValue (listed_type k z h s) (listed k (values_of f xs))
+value_list k z h s f xs v = record {
+  fits = λ n le. fits_at n (subst (λ (i : ℕ). i ≤ n) (depth_of_list k (values_of f xs)) le);
+  normal = λ n. elim n as (λ n. normal (listed_type k z h s n) (listed k (values_of f xs)) ≡ listed k (values_of f xs)) [
+    | zero ↦ cut_list k z h s (listed k (values_of f xs))
+    | suc m ↦ normal_list z h s m k (values_of f xs) ∙ ap (λ vs. listed k vs) (all_normal s f v xs m)
   ];
-  normal = λ n. elim n as (λ n. normal (scope n (λ m. sequence_of z h (s m))) (members (values_of f xs)) ≡ members (values_of f xs)) [ zero ↦ refl | suc m ↦ ap members (all_normal s f k xs m) ];
 }
+  where
+    fits_at : (n : ℕ) → depth_of_members (values_of f xs) + 1 ≤ n → Fits (listed_type k z h s n) (listed k (values_of f xs))
+    fits_at zero le = absurd (omega arith)
+    fits_at (suc m) le = list_fits z h s m k (values_of f xs) (all_fit s f v xs m (let w : depth_of_members (values_of f xs) ≤ m = omega arith in w))

@@ -54,7 +54,7 @@ unfolding PartsFit
 fits_field ts o s cs left_out ps f g = (f, g)
 fits_field ts o s cs (there v) ps f g = (f, g)
 
-depth_field : (x : Part) (ps : Parts) (n : ℕ) → depth_of_parts (with_part x ps) ≤ n → (part_depth x ≤ n) × (depth_of_parts ps ≤ n)
+pub depth_field : (x : Part) (ps : Parts) (n : ℕ) → depth_of_parts (with_part x ps) ≤ n → (part_depth x ≤ n) × (depth_of_parts ps ≤ n)
 unfolding depth_of_parts
 depth_field left_out ps n h = ((let z : 0 ≤ n = omega arith in z), h)
 depth_field (there v) ps n h =

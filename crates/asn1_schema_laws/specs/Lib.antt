@@ -1,6 +1,7 @@
 pub mod Records
 pub mod Presents
 pub mod Tables
+pub mod Forms
 pub mod Chains
 pub mod Parts
 pub mod Typed

@@ -1,8 +1,8 @@
 -- Building blocks of a type's schema, unfolded to any number of nested levels.
 use Rattle.std.specs.Prelude.{◌≡◌, ◌≤◌, ℕ, zero, suc, Bool, true, false, cond, ◌&&◌, List, [], ◌∷◌, ◌++◌}
 use Rattle.asn1_model.specs.Value.{Value, depth}
-use Rattle.asn1_model.specs.Schema.{Tag, Size, Counts, Presence, Schema, cut, sequence_of, sequence, Components}
-use Rattle.asn1_model.specs.Schema.{no_component, component}
+use Rattle.asn1_model.specs.Schema.{Tag, Size, Counts, Presence, Schema, cut, sequence_of, set_of, sequence}
+use Rattle.asn1_model.specs.Schema.{Components, no_component, component}
 use Rattle.asn1_model.specs.Normal.{normal}
 use Rattle.asn1_model.specs.Tidy.{is_tidy}
 use Rattle.asn1_model.specs.Lawful.{is_lawful, is_group, is_tag, tag_same, are_tags, are_tags_of}
@@ -10,7 +10,7 @@ use Rattle.asn1_model.specs.Normal.{is_required}
 use Rattle.asn1_schema_laws.specs.Presents.{Fits}
 use lib.Pointwise.{pointwise}
 
--- SEQUENCE OF, SEQUENCE and CHOICE take one of the n levels.
+-- SEQUENCE OF, SET OF, SEQUENCE, SET and CHOICE take one of the n levels.
 unfoldable pub scope : ℕ → (ℕ → Schema) → Schema
 scope zero inside = cut
 scope (suc n) inside = inside n
@@ -45,9 +45,9 @@ with_field t o s table = record {
 }
 
 -- The number of components that may be absent.
-abbrev pub presence_bits : Fields → ℕ
-presence_bits no_field = 0
-presence_bits (field t o s fs) = cond (is_required o) (presence_bits fs) (suc (presence_bits fs))
+abbrev pub optional_field_count : Fields → ℕ
+optional_field_count no_field = 0
+optional_field_count (field t o s fs) = cond (is_required o) (optional_field_count fs) (suc (optional_field_count fs))
 
 -- The tags of all components.
 abbrev pub field_tags : Fields → List Tag
@@ -58,9 +58,14 @@ field_tags (field t o s fs) = t ++ field_tags fs
 unfoldable pub sequence_type : Table → ℕ → Schema
 sequence_type t n = scope n (λ m. sequence (components_at m t.root) t.extensible (components_at m t.additions))
 
--- SEQUENCE OF (X.680 26).
+-- SEQUENCE OF elements of this type (X.680 26), under a size constraint; the Counts bound the number of elements that
+-- the user-defined type can hold.
 unfoldable pub list_type : Size → Counts → (ℕ → Schema) → ℕ → Schema
 list_type z h s n = scope n (λ m. sequence_of z h (s m))
+
+-- SET OF elements of this type (X.680 28), as `list_type`.
+unfoldable pub bag_type : Size → Counts → (ℕ → Schema) → ℕ → Schema
+bag_type z h s n = scope n (λ m. set_of z h (s m))
 
 -- One tag, of one of the four classes (X.680 8.1).
 abbrev pub is_one_tag : List Tag → Bool

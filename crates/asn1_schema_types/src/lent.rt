@@ -5,6 +5,7 @@ ghost use Rattle.asn1_model.specs.Value.{members, text, bit_list, arcs};
 ghost use Rattle.asn1_model.specs.Schema.{utf8, object_identifier};
 ghost use Rattle.asn1_schema_constraints.specs.Terms.{no_constraint, meant, character_string_under, bit_string_under};
 ghost use Rattle.asn1_schema_laws.specs.Parts.{values_of};
+ghost use Rattle.asn1_schema_laws.specs.Forms.{sequence_form};
 ghost use Rattle.asn1_schema_laws.specs.Tables.{list_type};
 ghost use Rattle.asn1_schema_laws.proofs.TypesByKind.{type_list, value_list, character_string_type};
 ghost use Rattle.asn1_schema_laws.proofs.TypesByKind.{character_string_value, bit_string_type, bit_string_value};
@@ -144,11 +145,11 @@ impl<'a, T: Described> Described for CowSlice<'a, T, Global> {
 
     ghost meaning = { λ s. members (values_of T.meaning (cow_slice_items s)) };
 
-    ghost typed = { type_list _ _ refl refl T.typed };
+    ghost typed = { type_list sequence_form _ _ refl refl T.typed };
 
-    ghost valued = { λ s. value_list _ _ T.schema T.meaning (cow_slice_items s) T.valued };
+    ghost valued = { λ s. value_list sequence_form _ _ T.schema T.meaning (cow_slice_items s) T.valued };
 
-    ghost valued_under = { λ c s. value_list _ _ T.schema T.meaning (cow_slice_items s) T.valued };
+    ghost valued_under = { λ c s. value_list sequence_form _ _ T.schema T.meaning (cow_slice_items s) T.valued };
 }
 
 impl<'a, T: AsnType> AsnType for CowSlice<'a, T, Global> {

@@ -3,6 +3,7 @@ ghost use Rattle.std.specs.Prelude.{refl, [], ◌∷◌};
 ghost use Rattle.asn1_model.specs.Value.{members};
 ghost use Rattle.asn1_schema_constraints.specs.Terms.{no_constraint};
 ghost use Rattle.asn1_schema_laws.specs.Parts.{values_of};
+ghost use Rattle.asn1_schema_laws.specs.Forms.{sequence_form};
 ghost use Rattle.asn1_schema_laws.specs.Tables.{list_type};
 ghost use Rattle.asn1_schema_laws.proofs.TypesByKind.{type_list, value_list};
 ghost use Rattle.asn1_schema_types.specs.Counts.{any_number_held, exactly, fixed_to, exactly_is_size};
@@ -24,11 +25,11 @@ impl<T: Described> Described for Vec<T> {
 
     ghost meaning = { λ v. members (values_of T.meaning v.items) };
 
-    ghost typed = { type_list _ _ refl refl T.typed };
+    ghost typed = { type_list sequence_form _ _ refl refl T.typed };
 
-    ghost valued = { λ v. value_list _ _ T.schema T.meaning v.items T.valued };
+    ghost valued = { λ v. value_list sequence_form _ _ T.schema T.meaning v.items T.valued };
 
-    ghost valued_under = { λ c v. value_list _ _ T.schema T.meaning v.items T.valued };
+    ghost valued_under = { λ c v. value_list sequence_form _ _ T.schema T.meaning v.items T.valued };
 }
 
 impl<T: AsnType> AsnType for Vec<T> {
@@ -58,11 +59,11 @@ impl<T: Described, const N: usize> Described for [T; N] {
 
     ghost meaning = { λ xs. members (values_of T.meaning xs) };
 
-    ghost typed = { type_list _ _ refl (exactly_is_size N) T.typed };
+    ghost typed = { type_list sequence_form _ _ refl (exactly_is_size N) T.typed };
 
-    ghost valued = { λ xs. value_list _ _ T.schema T.meaning xs T.valued };
+    ghost valued = { λ xs. value_list sequence_form _ _ T.schema T.meaning xs T.valued };
 
-    ghost valued_under = { λ c xs. value_list _ _ T.schema T.meaning xs T.valued };
+    ghost valued_under = { λ c xs. value_list sequence_form _ _ T.schema T.meaning xs T.valued };
 }
 
 impl<T: AsnType, const N: usize> AsnType for [T; N] {
@@ -97,11 +98,11 @@ impl<T: Described> Described for &[T] {
 
     ghost meaning = { λ s. members (values_of T.meaning s.now) };
 
-    ghost typed = { type_list _ _ refl refl T.typed };
+    ghost typed = { type_list sequence_form _ _ refl refl T.typed };
 
-    ghost valued = { λ s. value_list _ _ T.schema T.meaning s.now T.valued };
+    ghost valued = { λ s. value_list sequence_form _ _ T.schema T.meaning s.now T.valued };
 
-    ghost valued_under = { λ c s. value_list _ _ T.schema T.meaning s.now T.valued };
+    ghost valued_under = { λ c s. value_list sequence_form _ _ T.schema T.meaning s.now T.valued };
 }
 
 impl<T: AsnType> AsnType for &[T] {

@@ -3,8 +3,9 @@ ghost use Rattle.std.specs.Prelude.{refl, [], ◌∷◌};
 ghost use Rattle.asn1_model.specs.Value.{bag};
 ghost use Rattle.asn1_schema_constraints.specs.Terms.{no_constraint};
 ghost use Rattle.asn1_schema_laws.specs.Parts.{values_of};
-ghost use Rattle.asn1_schema_constructed.specs.Bags.{bag_type};
-ghost use Rattle.asn1_schema_constructed.proofs.Bags.{type_bag, value_bag};
+ghost use Rattle.asn1_schema_laws.specs.Forms.{set_form};
+ghost use Rattle.asn1_schema_laws.specs.Tables.{bag_type};
+ghost use Rattle.asn1_schema_laws.proofs.TypesByKind.{type_list, value_list};
 ghost use Rattle.asn1_schema_types.specs.Counts.{any_number_held};
 
 use crate::set_of::SetOf;
@@ -30,11 +31,11 @@ impl<T: Described> Described for SetOf<T> {
 
     ghost meaning = { λ s. bag (values_of T.meaning s.items.items) };
 
-    ghost typed = { type_bag _ _ refl refl T.typed };
+    ghost typed = { type_list set_form _ _ refl refl T.typed };
 
-    ghost valued = { λ s. value_bag _ _ T.schema T.meaning s.items.items T.valued };
+    ghost valued = { λ s. value_list set_form _ _ T.schema T.meaning s.items.items T.valued };
 
-    ghost valued_under = { λ c s. value_bag _ _ T.schema T.meaning s.items.items T.valued };
+    ghost valued_under = { λ c s. value_list set_form _ _ T.schema T.meaning s.items.items T.valued };
 }
 
 impl<T: AsnType> AsnType for SetOf<T> {

@@ -1,6 +1,7 @@
 //! Size constraints (X.680 51.5) as types.
 ghost use Rattle.std.specs.Prelude.{◌≡◌, refl};
 ghost use Rattle.asn1_schema_constraints.specs.Terms.{meant};
+ghost use Rattle.asn1_schema_laws.specs.Forms.{sequence_form};
 ghost use Rattle.asn1_schema_laws.proofs.TypesByKind.{bit_string_type, octet_string_type, type_list};
 ghost use Rattle.asn1_schema_wrapped.specs.Sizes.{are_sizes, sizes_from_to};
 
@@ -82,7 +83,7 @@ impl<T: Described, const LOW: usize, const HIGH: usize, const EXTENSIBLE: bool> 
 
     ghost meaning = { ⟦<Vec<T> as Described>⟧.meaning };
 
-    ghost lawful = { type_list _ _ refl (are_sizes LOW HIGH) T.typed };
+    ghost lawful = { type_list sequence_form _ _ refl (are_sizes LOW HIGH) T.typed };
 
     ghost valued = { ⟦<Vec<T> as Described>⟧.valued_under };
 

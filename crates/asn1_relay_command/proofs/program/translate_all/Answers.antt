@@ -1,8 +1,7 @@
 use Rattle.asn1_schema_constructed.specs.Recursive.{recursive_choice}
 use Rattle.asn1_schema_constructed.specs.Tables.{alternatives_at, choice_type}
 use Rattle.asn1_schema_laws.specs.Additions.{group_type}
-use Rattle.asn1_schema_laws.specs.Tables.{scope, components_at, sequence_type, list_type}
-use Rattle.asn1_schema_constructed.specs.Bags.{bag_type}
+use Rattle.asn1_schema_laws.specs.Tables.{scope, components_at, sequence_type, list_type, bag_type}
 use Rattle.asn1_relay_command.proofs.program.translate_all.Goals as goal
 
 pub returns-in-Small : goal.returns-in-Small

@@ -1,10 +1,11 @@
 use Rattle.std.proofs.Common.{rules}
 use Rattle.std.proofs.Common.{refl, ◌∙◌, arith, ap, Err}
+use Rattle.asn1_schema.specs.Author.{sequence_form}
 use Rattle.asn1_schema.proofs.Author.{count_presence_bits, failed_reads, from_close, from_end, from_further, from_next}
 use Rattle.asn1_schema.proofs.Author.{from_start, from_stuck, passed_on, raised, reads_as, reads_end, reads_field}
-use Rattle.asn1_schema.proofs.Author.{reads_list, reads_required, reads_sequence, unread_as, unread_end}
+use Rattle.asn1_schema.proofs.Author.{reads_list, reads_required, reads_constructed, unread_as, unread_end}
 use Rattle.asn1_schema.proofs.Author.{unread_field, unread_field_here, unread_list, unread_list_here}
-use Rattle.asn1_schema.proofs.Author.{unread_required, unread_sequence, unread_sequence_here}
+use Rattle.asn1_schema.proofs.Author.{unread_required, unread_constructed, unread_constructed_here}
 use Rattle.asn1_schema_example.specs.Numbers.{number_typed}
 use Rattle.asn1_schema_example.specs.Tree.{tree_table, tree_is, branches_schema, branches_are, tree_opens, tree_made, tree_typed, branches_typed}
 use Rattle.asn1_schema_example.proofs.Held.{is_held}
@@ -36,7 +37,7 @@ TreeConstructed::read_fields-returns-clause-ok g t c = rw tree_made
 pub TreeDecode::decode_with_tag_and_constraints-returns-in_err-begin_sequence-clause-only : goal.TreeDecode::decode_with_tag_and_constraints-returns-in_err-begin_sequence-clause-only
 TreeDecode::decode_with_tag_and_constraints-returns-in_err-begin_sequence-clause-only g t c =
     raised _ _ _ c.from_residual.ensures.1
-    (unread_as _ _ tree_is (unread_sequence_here (tree_table branches_schema) _ (c.number_of_optional_and_default_fields-optional.ensures ∙
+    (unread_as _ _ tree_is (unread_constructed_here sequence_form (tree_table branches_schema) _ (c.number_of_optional_and_default_fields-optional.ensures ∙
     count_presence_bits _ _ c.fields.ensures) refl c.in_err-begin_sequence.ensures.only))
 
 pub TreeDecode::decode_with_tag_and_constraints-read_fields-requires : goal.TreeDecode::decode_with_tag_and_constraints-read_fields-requires
@@ -45,17 +46,18 @@ TreeDecode::decode_with_tag_and_constraints-read_fields-requires g t c κs withi
 pub TreeDecode::decode_with_tag_and_constraints-returns-in_err-tree-clause-only : goal.TreeDecode::decode_with_tag_and_constraints-returns-in_err-tree-clause-only
 TreeDecode::decode_with_tag_and_constraints-returns-in_err-tree-clause-only g t c = let one = g.met.D.Decoder.one_record in let carries =
     g.met.D.Decoder.records_carried in raised _ _ _ c.from_residual-in_err-tree.ensures.1
-    (unread_as _ _ tree_is (unread_sequence one carries (tree_table branches_schema) (c.number_of_optional_and_default_fields-optional.ensures ∙
+    (unread_as _ _ tree_is (unread_constructed one carries sequence_form (tree_table branches_schema) (c.number_of_optional_and_default_fields-optional.ensures ∙
     count_presence_bits _ _ c.fields.ensures) refl c.in_ok-begin_sequence.ensures.call.level c.in_ok-begin_sequence.ensures.ok c.in_err-tree.ensures.only))
 
 pub TreeDecode::decode_with_tag_and_constraints-returns-clause-ok : goal.TreeDecode::decode_with_tag_and_constraints-returns-clause-ok
 TreeDecode::decode_with_tag_and_constraints-returns-clause-ok g t c =
     rw tree_opens (reads_as _ _ tree_is
-    (reads_sequence (tree_table branches_schema) (c.number_of_optional_and_default_fields-optional.ensures ∙ count_presence_bits _ _ c.fields.ensures)
+    (reads_constructed sequence_form (tree_table branches_schema) (c.number_of_optional_and_default_fields-optional.ensures ∙ count_presence_bits _ _ c.fields.ensures)
     refl c.in_ok-begin_sequence.ensures.call.level c.in_ok-begin_sequence.ensures.ok c.in_ok-tree.ensures.ok))
 
 pub read_branches-returns-in_err-begin_list-clause-only : goal.read_branches-returns-in_err-begin_list-clause-only
-read_branches-returns-in_err-begin_list-clause-only g t c = raised _ _ _ c.from_residual.ensures.1 (unread_as _ _ branches_are (unread_list_here _ _ _ _ c.in_err-begin_list.ensures.only))
+read_branches-returns-in_err-begin_list-clause-only g t c = raised _ _ _ c.from_residual.ensures.1
+    (unread_as _ _ branches_are (unread_list_here sequence_form _ _ _ _ c.in_err-begin_list.ensures.only))
 
 pub read_branches-loop-branches-init : goal.read_branches-loop-branches-init
 read_branches-loop-branches-init g t c = (rw c.new-branches.ensures.items (from_start _), refl, g.met.D.Decoder.goes_on _ _ _ (c.in_ok-begin_list.ensures.ok 0 refl))
@@ -63,7 +65,7 @@ read_branches-loop-branches-init g t c = (rw c.new-branches.ensures.items (from_
 pub read_branches-returns-in_err-get_further-clause-only : goal.read_branches-returns-in_err-get_further-clause-only
 read_branches-returns-in_err-get_further-clause-only g t c =
     raised _ _ _ c.from_residual-in_err-get_further.ensures.1
-    (unread_as _ _ branches_are (unread_list _ _ _ g.met.D.Decoder.one_record g.met.D.Decoder.members_carried g.met.D.Decoder.list_held
+    (unread_as _ _ branches_are (unread_list sequence_form _ _ _ g.met.D.Decoder.one_record g.met.D.Decoder.members_carried g.met.D.Decoder.list_held
     c.in_ok-begin_list.ensures.call.level c.in_ok-begin_list.ensures.ok (from_further g.met.D.Decoder.members_carried _ c.loop-branches.invariant.0 c.in_err-get_further.ensures.only)))
 
 pub read_branches-decode_with_tag_and_constraints-requires : goal.read_branches-decode_with_tag_and_constraints-requires
@@ -73,7 +75,7 @@ read_branches-decode_with_tag_and_constraints-requires g t c κs within =
 pub read_branches-returns-in_err-branch-clause-only : goal.read_branches-returns-in_err-branch-clause-only
 read_branches-returns-in_err-branch-clause-only g t c = let one = g.met.D.Decoder.one_record in let carries = g.met.D.Decoder.members_carried in
     raised _ _ _ c.from_residual-in_err-branch.ensures.1
-    (unread_as _ _ branches_are (unread_list _ _ _ one carries g.met.D.Decoder.list_held c.in_ok-begin_list.ensures.call.level
+    (unread_as _ _ branches_are (unread_list sequence_form _ _ _ one carries g.met.D.Decoder.list_held c.in_ok-begin_list.ensures.call.level
     c.in_ok-begin_list.ensures.ok (from_stuck carries one _ (tree_typed.lawful _) c.loop-branches.invariant.0
     (rw c.if-branch.true at c.in_ok-get_further.ensures.ok) (rw (c.in_ok-get_further.ensures.call.level ∙ c.loop-branches.invariant.1) at c.in_err-branch.ensures.only))))
 
@@ -90,12 +92,12 @@ read_branches-loop-branches-preserved g t c =
 pub read_branches-returns-in_err-end-clause-only : goal.read_branches-returns-in_err-end-clause-only
 read_branches-returns-in_err-end-clause-only g t c = let one = g.met.D.Decoder.one_record in let carries = g.met.D.Decoder.members_carried in
     raised _ _ _ c.from_residual-in_err-end.ensures.1
-    (unread_as _ _ branches_are (unread_list _ _ _ one carries g.met.D.Decoder.list_held c.in_ok-begin_list.ensures.call.level
+    (unread_as _ _ branches_are (unread_list sequence_form _ _ _ one carries g.met.D.Decoder.list_held c.in_ok-begin_list.ensures.call.level
     c.in_ok-begin_list.ensures.ok (from_close carries one _ c.loop-branches.invariant.0 (rw c.if-branch.false at c.in_ok-get_further.ensures.ok) c.in_err-end.ensures.only)))
 
 pub read_branches-returns-clause-ok : goal.read_branches-returns-clause-ok
 read_branches-returns-clause-ok g t c = reads_as _ _ branches_are
-    (reads_list _ _ _ _ _ c.in_ok-begin_list.ensures.call.level c.in_ok-begin_list.ensures.ok (is_held c.loop-branches.branches)
+    (reads_list sequence_form _ _ _ _ _ c.in_ok-begin_list.ensures.call.level c.in_ok-begin_list.ensures.ok (is_held c.loop-branches.branches)
     (from_end c.loop-branches.invariant.0 (rw c.if-branch.false at c.in_ok-get_further.ensures.ok) c.in_ok-end.ensures.ok))
 
 pub read_branches-returns-clause-level : goal.read_branches-returns-clause-level

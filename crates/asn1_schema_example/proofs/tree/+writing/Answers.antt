@@ -1,9 +1,10 @@
 use Rattle.std.proofs.Common.{rules}
 use Rattle.std.proofs.Common.{refl, ◌∙◌}
+use Rattle.asn1_schema.specs.Author.{sequence_form}
 use Rattle.asn1_schema.proofs.Author.{cannot_as, cannot_end, cannot_field, cannot_field_here, cannot_required}
-use Rattle.asn1_schema.proofs.Author.{cannot_this, cannot_this_here, count_presence_bits, failed_before_value, integer_value}
+use Rattle.asn1_schema.proofs.Author.{cannot_constructed, cannot_constructed_here, count_presence_bits, failed_before_value, integer_value}
 use Rattle.asn1_schema.proofs.Author.{passed, raised, value_list, writes_as, writes_end, writes_field}
-use Rattle.asn1_schema.proofs.Author.{writes_required, writes_this}
+use Rattle.asn1_schema.proofs.Author.{writes_required, writes_constructed}
 use Rattle.asn1_schema_example.specs.Numbers.{number_typed}
 use Rattle.asn1_schema_example.specs.Tree.{tree_table, tree_schema, tree_meaning, tree_valued, tree_is, branches_schema, branches_are, tree_opens, branches_typed}
 use Rattle.asn1_schema_example.proofs.tree.+writing.Goals as goal
@@ -31,18 +32,18 @@ TreeConstructed::write_fields-returns-clause-ok g t c =
 pub TreeEncode::encode_with_tag_and_constraints-returns-in_err-begin_sequence-clause-only : goal.TreeEncode::encode_with_tag_and_constraints-returns-in_err-begin_sequence-clause-only
 TreeEncode::encode_with_tag_and_constraints-returns-in_err-begin_sequence-clause-only g t c =
     raised _ _ _ c.from_residual.ensures.1 (rw tree_opens
-    (cannot_as _ _ tree_is (cannot_this_here _ (tree_table branches_schema)
+    (cannot_as _ _ tree_is (cannot_constructed_here _ sequence_form (tree_table branches_schema)
     (c.number_of_optional_and_default_fields-optional.ensures ∙ count_presence_bits _ _ c.fields.ensures) refl _ _ c.in_err-begin_sequence.ensures.only)))
 
 pub TreeEncode::encode_with_tag_and_constraints-returns-in_err-write_fields-clause-only : goal.TreeEncode::encode_with_tag_and_constraints-returns-in_err-write_fields-clause-only
 TreeEncode::encode_with_tag_and_constraints-returns-in_err-write_fields-clause-only g t c = let one = g.met.E.Encoder.one_after in
     raised _ _ _ c.from_residual-in_err-write_fields.ensures.1
-    (rw tree_opens (cannot_as _ _ tree_is (cannot_this _ (tree_table branches_schema)
+    (rw tree_opens (cannot_as _ _ tree_is (cannot_constructed _ sequence_form (tree_table branches_schema)
     (c.number_of_optional_and_default_fields-optional.ensures ∙ count_presence_bits _ _ c.fields.ensures) refl one c.in_ok-begin_sequence.ensures.ok c.in_err-write_fields.ensures.only)))
 
 pub TreeEncode::encode_with_tag_and_constraints-returns-clause-ok : goal.TreeEncode::encode_with_tag_and_constraints-returns-clause-ok
 TreeEncode::encode_with_tag_and_constraints-returns-clause-ok g t c =
-    rw tree_opens (writes_as _ _ tree_is (writes_this _ (tree_table branches_schema)
+    rw tree_opens (writes_as _ _ tree_is (writes_constructed _ sequence_form (tree_table branches_schema)
     (c.number_of_optional_and_default_fields-optional.ensures ∙ count_presence_bits _ _ c.fields.ensures) refl c.in_ok-begin_sequence.ensures.ok c.in_ok-write_fields.ensures.ok))
 
 pub TreeConstructed::write_fields-returns-in_err-encode-2-clause-call : goal.TreeConstructed::write_fields-returns-in_err-encode-2-clause-call
@@ -64,5 +65,5 @@ TreeConstructed::write_fields-returns-in_err-end-clause-call g t c =
       after = let law = g.met.E.Encoder.goes_on in
           passed c.from_residual-in_err-end.ensures.1
           (λ e. failed_before_value law (integer_value _ _ _) c.in_ok-encode.ensures.ok
-          (failed_before_value law (value_list _ _ tree_schema tree_meaning _ tree_valued) c.in_ok-encode-2.ensures.ok (c.in_err-end.ensures.call.after e)));
+          (failed_before_value law (value_list sequence_form _ _ tree_schema tree_meaning _ tree_valued) c.in_ok-encode-2.ensures.ok (c.in_err-end.ensures.call.after e)));
     }

@@ -3,7 +3,7 @@ use Rattle.asn1_schema_authored.proofs.Composing.{reads_composite, unread_compos
 use Rattle.asn1_schema_authored.proofs.composites.CompositeDecode.decode_with_tag_and_constraints.Goals as goal
 
 pub returns-in_err-begin_read-clause-only : goal.returns-in_err-begin_read-clause-only
-returns-in_err-begin_read-clause-only g c = raised _ _ _ c.from_residual.ensures.1 (unread_composite_here _ _ g.T.Components.shape.form _ c.heading.ensures.heading c.in_err-begin_read.ensures.only)
+returns-in_err-begin_read-clause-only g c = raised _ _ _ c.from_residual.ensures.1 (unread_composite_here _ _ g.T.Components.shape.form c.heading.ensures.heading _ c.in_err-begin_read.ensures.only)
 
 pub returns-in_err-value-clause-only : goal.returns-in_err-value-clause-only
 returns-in_err-value-clause-only g c = raised _ _ _ c.from_residual-in_err-value.ensures.1

@@ -4,7 +4,7 @@ use Rattle.asn1_schema_authored.proofs.composites.CompositeEncode.encode_with_ta
 
 pub returns-in_err-begin_written-clause-only : goal.returns-in_err-begin_written-clause-only
 returns-in_err-begin_written-clause-only g c = raised _ _ _ c.from_residual.ensures.1
-    (cannot_composite_here _ _ g.T.Components.shape.form _ _ c.heading.ensures.heading c.in_err-begin_written.ensures.only)
+    (cannot_composite_here _ _ g.T.Components.shape.form c.heading.ensures.heading _ _ c.in_err-begin_written.ensures.only)
 
 pub returns-in_err-write_components-clause-only : goal.returns-in_err-write_components-clause-only
 returns-in_err-write_components-clause-only g c = raised _ _ _ c.from_residual-in_err-write_components.ensures.1

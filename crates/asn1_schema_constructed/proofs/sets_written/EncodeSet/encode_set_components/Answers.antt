@@ -1,13 +1,15 @@
+use Rattle.asn1_schema_laws.specs.Forms.{set_form}
 use Rattle.asn1_schema_laws.proofs.Joined.{raised}
-use Rattle.asn1_schema_constructed.proofs.SetWriting.{writes_set, cannot_set, cannot_set_here}
+use Rattle.asn1_schema_encode.proofs.Writing.{writes_constructed, cannot_constructed, cannot_constructed_here}
 use Rattle.asn1_schema_constructed.proofs.sets_written.EncodeSet.encode_set_components.Goals as goal
 
 pub returns-in_err-begin_set-clause-only : goal.returns-in_err-begin_set-clause-only
-returns-in_err-begin_set-clause-only g c = raised _ _ _ c.from_residual.ensures.1 (cannot_set_here _ _ c.requires.presence_bits c.requires.marker _ _ c.in_err-begin_set.ensures.only)
+returns-in_err-begin_set-clause-only g c = raised _ _ _ c.from_residual.ensures.1 (cannot_constructed_here _ set_form _ c.requires.presence_bits c.requires.marker _ _ c.in_err-begin_set.ensures.only)
 
 pub returns-in_err-encode_components-clause-only : goal.returns-in_err-encode_components-clause-only
 returns-in_err-encode_components-clause-only g c = let one = g.met.Self.Encoder.one_after in
-    raised _ _ _ c.from_residual-in_err-encode_components.ensures.1 (cannot_set _ _ c.requires.presence_bits c.requires.marker one c.in_ok-begin_set.ensures.ok c.in_err-encode_components.ensures.only)
+    raised _ _ _ c.from_residual-in_err-encode_components.ensures.1
+    (cannot_constructed _ set_form _ c.requires.presence_bits c.requires.marker one c.in_ok-begin_set.ensures.ok c.in_err-encode_components.ensures.only)
 
 pub returns-clause-ok : goal.returns-clause-ok
-returns-clause-ok g c = writes_set _ _ c.requires.presence_bits c.requires.marker c.in_ok-begin_set.ensures.ok c.in_ok-encode_components.ensures.ok
+returns-clause-ok g c = writes_constructed _ set_form _ c.requires.presence_bits c.requires.marker c.in_ok-begin_set.ensures.ok c.in_ok-encode_components.ensures.ok

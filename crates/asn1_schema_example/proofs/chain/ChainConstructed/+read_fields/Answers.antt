@@ -1,10 +1,11 @@
 use Rattle.std.proofs.Common.{rules}
 use Rattle.std.proofs.Common.{refl, ◌∙◌, ap, Err}
+use Rattle.asn1_schema.specs.Author.{sequence_form}
 use Rattle.asn1_schema.specs.Author.{optional}
 use Rattle.asn1_schema.proofs.Author.{raised, reads_as, unread_as, reads_required, reads_left_out, reads_there}
-use Rattle.asn1_schema.proofs.Author.{reads_end, reads_field, reads_sequence, unread_required, unread_presence_bit}
-use Rattle.asn1_schema.proofs.Author.{unread_present, unread_end, unread_field, unread_field_here, unread_sequence}
-use Rattle.asn1_schema.proofs.Author.{unread_sequence_here, failed_before, passed_on, failed_reads, count_presence_bits}
+use Rattle.asn1_schema.proofs.Author.{reads_end, reads_field, reads_constructed, unread_required, unread_presence_bit}
+use Rattle.asn1_schema.proofs.Author.{unread_present, unread_end, unread_field, unread_field_here, unread_constructed}
+use Rattle.asn1_schema.proofs.Author.{unread_constructed_here, failed_before, passed_on, failed_reads, count_presence_bits}
 use Rattle.asn1_schema_example.specs.Numbers.{number_typed}
 use Rattle.asn1_schema_example.specs.Chain.{chain_table, chain_schema, chain_is, chain_opens, chain_made, chain_typed}
 use Rattle.asn1_schema_example.proofs.chain.ChainConstructed.+read_fields.Goals as goal
@@ -36,7 +37,7 @@ returns-in_err-begin_sequence-clause-only g t c = let one = g.met.D.Decoder.one_
     raised _ _ _ c.from_residual-in_err-begin_sequence.ensures.1
     (unread_field one carries values _ (reads_required number_typed c.in_ok-value.ensures.ok)
     (unread_field_here _ _ (unread_present one carries optional refl (rw c.if-not-is_there.false at c.in_ok-is_there.ensures.ok)
-    (unread_as _ _ chain_is (unread_sequence_here (chain_table chain_schema) _
+    (unread_as _ _ chain_is (unread_constructed_here sequence_form (chain_table chain_schema) _
     (c.number_of_optional_and_default_fields-optional.ensures ∙ count_presence_bits _ _ c.fields.ensures) refl
     (rw (c.in_ok-is_there.ensures.call.level, c.in_ok-value.ensures.call.level) at c.in_err-begin_sequence.ensures.only))))))
 
@@ -46,7 +47,7 @@ returns-in_err-inner-clause-only g t c = let one = g.met.D.Decoder.one_record in
     raised _ _ _ c.from_residual-in_err-inner.ensures.1
     (unread_field one carries values _ (reads_required number_typed c.in_ok-value.ensures.ok)
     (unread_field_here _ _ (unread_present one carries optional refl (rw c.if-not-is_there.false at c.in_ok-is_there.ensures.ok)
-    (unread_as _ _ chain_is (unread_sequence one carries (chain_table chain_schema)
+    (unread_as _ _ chain_is (unread_constructed one carries sequence_form (chain_table chain_schema)
     (c.number_of_optional_and_default_fields-optional.ensures ∙ count_presence_bits _ _ c.fields.ensures) refl
     (rw (c.in_ok-is_there.ensures.call.level, c.in_ok-value.ensures.call.level) at c.in_ok-begin_sequence.ensures.call.level) c.in_ok-begin_sequence.ensures.ok c.in_err-inner.ensures.only)))))
 
@@ -57,7 +58,7 @@ returns-in_err-end-2-clause-only g t c = let one = g.met.D.Decoder.one_record in
     (unread_field one carries values _ (reads_required number_typed c.in_ok-value.ensures.ok)
     (unread_field one carries values _ (reads_there optional refl chain_typed
     (rw c.if-not-is_there.false at c.in_ok-is_there.ensures.ok)
-    (reads_as _ _ chain_is (reads_sequence (chain_table chain_schema) (c.number_of_optional_and_default_fields-optional.ensures
+    (reads_as _ _ chain_is (reads_constructed sequence_form (chain_table chain_schema) (c.number_of_optional_and_default_fields-optional.ensures
     ∙ count_presence_bits _ _ c.fields.ensures) refl
     (rw (c.in_ok-is_there.ensures.call.level, c.in_ok-value.ensures.call.level) at c.in_ok-begin_sequence.ensures.call.level)
     c.in_ok-begin_sequence.ensures.ok c.in_ok-inner.ensures.ok)) refl) (unread_end _ c.in_err-end-2.ensures.only)))
@@ -66,7 +67,7 @@ pub returns-clause-ok : goal.returns-clause-ok
 returns-clause-ok g t c = rw chain_made (reads_field _ (reads_required number_typed c.in_ok-value.ensures.ok)
     (reads_field _ (reads_there optional refl chain_typed (rw c.if-not-is_there.false at c.in_ok-is_there.ensures.ok)
     (rw (c.in-Ok.ensures.ok, chain_opens) (reads_as _ _ chain_is
-    (reads_sequence (chain_table chain_schema) (c.number_of_optional_and_default_fields-optional.ensures
+    (reads_constructed sequence_form (chain_table chain_schema) (c.number_of_optional_and_default_fields-optional.ensures
     ∙ count_presence_bits _ _ c.fields.ensures) refl
     (rw (c.in_ok-is_there.ensures.call.level, c.in_ok-value.ensures.call.level) at c.in_ok-begin_sequence.ensures.call.level)
     c.in_ok-begin_sequence.ensures.ok c.in_ok-inner.ensures.ok))) refl) (reads_end _ c.in_ok-end-2.ensures.ok)))
