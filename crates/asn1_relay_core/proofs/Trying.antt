@@ -16,6 +16,7 @@ use Rattle.asn1_laws_across.specs.Streams.{Message, IsMessageWithin, HasNoMessag
 use Rattle.asn1_laws_across.specs.Relayed.{Stop, no_target, empty_message, none_within_limit, HasEmptyMessage, BeginsWith, StopsAt}
 use Rattle.asn1_laws_across.proofs.Relayed.{begins_with}
 use Rattle.asn1_relay_core.specs.Coding.{IsWritten}
+use Rattle.asn1_relay_core.specs.MessageTypes.{IsWrittenAs}
 use Rattle.asn1_relay_core.proofs.Coded.{of_raw}
 use Rattle.asn1_relay_core.specs.declared.fault.RelayFaultKind.{RelayFaultKind}
 use Rattle.asn1_relay_core.specs.declared.fault.RelayFaultKind.TheVariants as kind
@@ -84,7 +85,7 @@ module _ (source target : Rules) (schema : ℕ → Schema) (limit : ℕ) (u : Li
 
   -- ---- there is a message
 
-  module _ (v : Value) (rest : List ℕ) (t : Tells source schema v window rest) (is : IsValue schema v) where
+  module _ (Means : Value → Type 0) (v : Value) (m : Means v) (rest : List ℕ) (t : Tells source schema v window rest) (is : IsValue schema v) where
     abbrev told : Message
     told = record { octets = t.message.message; value = t.raw }
 
@@ -106,7 +107,7 @@ module _ (source target : Rules) (schema : ℕ → Schema) (limit : ℕ) (u : Li
     begins : (w : Option (List ℕ)) → 1 ≤ length told.octets → IsWritten target schema v w → BeginsWith source target (schema 128) limit w u
     begins w l h = (told, rest ++ behind, cut, is_message l, of_raw source target schema v window rest t w is h)
 
-    pub tried_relayed : (n : ℕ) (before after : List ℕ) → n ≡ length window - length rest → 1 ≤ n → AddsText target schema v before after →
+    pub tried_relayed : (n : ℕ) (before after : List ℕ) → n ≡ length window - length rest → 1 ≤ n → AddsText target schema Means before after →
         Tries source target (schema 128) limit u before after (front.Relayed n)
     tried_relayed n before after e l a =
         let c = counted in
@@ -118,7 +119,7 @@ module _ (source target : Rules) (schema : ℕ → Schema) (limit : ℕ) (u : Li
           in_front = cut;
           written = a.text;
           translated =
-              of_raw source target schema v window rest t (Some a.text) is a.written;
+              of_raw source target schema v window rest t (Some a.text) is (a.written v m);
           is_some = a.is_some;
           counted = omega arith;
           grows = a.grows;
@@ -130,15 +131,15 @@ module _ (source target : Rules) (schema : ℕ → Schema) (limit : ℕ) (u : Li
         let z : told.octets ≡ [] = none_long told.octets (sym c ∙ e) in
         (g, inr (empty_message, refl, inr (n, (t.raw, subst (λ l. IsEncoding source (schema 128) t.raw l) z t.message.encoding, t.message.levels))))
 
-    pub tried_nothing : (k : RelayFaultKind) (before after : List ℕ) → 1 ≤ length window - length rest → AddsNothing target schema v before after k →
+    pub tried_nothing : (k : RelayFaultKind) (before after : List ℕ) → 1 ≤ length window - length rest → AddsNothing target schema Means before after k →
         Tries source target (schema 128) limit u before after (front.Stops k)
     tried_nothing k before after l a = (a.same, by_cause a.why)
       where
         some_told : 1 ≤ length told.octets
         some_told = let c = counted in omega arith
 
-        by_cause : (k ≡ kind.Memory) ⊎ ((k ≡ kind.NoTarget) × IsWritten target schema v None) ⊎ ((k ≡ kind.EmptyMessage) × IsWritten target schema v (Some []))
+        by_cause : (k ≡ kind.Memory) ⊎ ((k ≡ kind.NoTarget) × IsWrittenAs target schema Means None) ⊎ ((k ≡ kind.EmptyMessage) × IsWrittenAs target schema Means (Some []))
             → (k ≡ kind.Memory) ⊎ ((why : Stop) × (k ≡ kind_of_stop why) × StopsAt source target (schema 128) limit u (Some why))
         by_cause (inl e) = inl e
-        by_cause (inr (inl h)) = inr (no_target, h.0, begins None some_told h.1)
-        by_cause (inr (inr h)) = inr (empty_message, h.0, inl (begins (Some []) some_told h.1))
+        by_cause (inr (inl h)) = inr (no_target, h.0, begins None some_told (h.1 v m))
+        by_cause (inr (inr h)) = inr (empty_message, h.0, inl (begins (Some []) some_told (h.1 v m)))

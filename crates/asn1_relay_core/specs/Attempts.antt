@@ -11,7 +11,7 @@ use Rattle.asn1_relay_core.specs.declared.fault.RelayFaultKind.{RelayFaultKind}
 use Rattle.asn1_relay_core.specs.declared.fault.RelayFaultKind.TheVariants as kind
 use Rattle.asn1_relay_core.specs.declared.front.Attempt.{Attempt}
 use Rattle.asn1_relay_core.specs.declared.front.Attempt.TheVariants as front
-use Rattle.asn1_relay_core.specs.Coding.{IsWritten}
+use Rattle.asn1_relay_core.specs.MessageTypes.{IsWrittenAs}
 use Rattle.asn1_relay_core.specs.Relaying.{kind_of_stop}
 
 -- The octets begin with a message of this length, and its translation, which is not empty, was written.
@@ -27,19 +27,20 @@ pub record RelaysOne (source target : Rules) (s : Schema) (limit : ℕ) (w befor
     pub counted : length message.octets ≡ count
     pub grows : after ≡ before ++ written
 
--- The canonical encoding of a value is written, and is not empty.
-pub record AddsText (target : Rules) (schema : ℕ → Schema) (v : Value) (before after : List ℕ) : Type 0 where
-  pub text : List ℕ
-  pub written : IsWritten target schema v (Some text)
-  pub is_some : text ≢ []
-  pub grows : after ≡ before ++ text
+-- The canonical encoding of what is meant is written, and is not empty.
+pub record AddsText (target : Rules) (schema : ℕ → Schema) (Means : Value → Type 0) (before after : List ℕ) : Type 0
+  where
+    pub text : List ℕ
+    pub written : IsWrittenAs target schema Means (Some text)
+    pub is_some : text ≢ []
+    pub grows : after ≡ before ++ text
 
 -- Nothing is written: memory ran out, or the canonical encoding does not exist, or it is empty.
-pub record AddsNothing (target : Rules) (schema : ℕ → Schema) (v : Value) (before after : List ℕ)
+pub record AddsNothing (target : Rules) (schema : ℕ → Schema) (Means : Value → Type 0) (before after : List ℕ)
     (k : RelayFaultKind) : Type 0 where
   pub same : after ≡ before
-  pub why : (k ≡ kind.Memory) ⊎ ((k ≡ kind.NoTarget) × IsWritten target schema v None)
-      ⊎ ((k ≡ kind.EmptyMessage) × IsWritten target schema v (Some []))
+  pub why : (k ≡ kind.Memory) ⊎ ((k ≡ kind.NoTarget) × IsWrittenAs target schema Means None)
+      ⊎ ((k ≡ kind.EmptyMessage) × IsWrittenAs target schema Means (Some []))
 
 -- While more octets are appended, but fewer than `number` in total, the octets do not begin with a message.
 abbrev pub Awaits : Rules → Schema → ℕ → List ℕ → ℕ → Type 0

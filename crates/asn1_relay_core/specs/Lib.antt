@@ -1,6 +1,7 @@
 pub mod Coding
 pub mod Recoding
 pub mod Relaying
+pub mod MessageTypes
 pub mod Attempts
 pub mod Ends
 pub mod Memory

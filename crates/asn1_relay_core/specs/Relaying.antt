@@ -1,5 +1,5 @@
 -- What a relay holds, and what its calls do.
-use Rattle.std.specs.Prelude.{◌≡◌, ◌⊎◌, ℕ, min, ◌+◌, ◌≤◌, Bool, true, false, List, ◌++◌, length, if◌then◌else◌}
+use Rattle.std.specs.Prelude.{◌≡◌, ◌⊎◌, ℕ, min, ◌+◌, ◌≤◌, Bool, true, false, List, [], ◌++◌, length, if◌then◌else◌}
 use Rattle.std.specs.Prelude.{Option, Some, None}
 use Rattle.asn1_model.specs.Schema.{Schema}
 use Rattle.asn1_laws_across.specs.Streams.{Message}
@@ -23,6 +23,10 @@ pub record Relaying : Type 0 where
   pub number : ℕ
   -- whether it has stopped
   pub failed : Bool
+
+-- A relay that has read nothing.
+abbrev pub starting : Codec → Codec → ℕ → Relaying
+starting from to limit = record { from = from; to = to; limit = limit; unread = []; number = 0; failed = false }
 
 -- Message numbers saturate at the maximum of 64 bits.
 abbrev pub capped : ℕ → ℕ

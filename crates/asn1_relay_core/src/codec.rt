@@ -118,6 +118,7 @@ impl Codec {
         ensures ok { IfOk result (λ x. Tells (rules_of self) T.schema (T.meaning x.0) input.now x.1.now) }
         ensures only { IfErr result (λ x. NoMessage (rules_of self) T.schema input.now x.error) }
         ensures needed { IfErr result (λ x. NeedsMore (rules_of self) T.schema input.now x.needed x.error) }
+        ensures fresh { IfErr result (λ x. x.error ≡ DecodeError.AlreadyFailed → ⊥) }
     {
         let front = match self {
             Codec::Uper => uper::decode_or_need(alloc, input)?,

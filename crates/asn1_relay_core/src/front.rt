@@ -4,9 +4,8 @@ ghost use Rattle.asn1_relay_core.specs.Coding.{rules_of};
 ghost use Rattle.asn1_relay_core.specs.Attempts.{AddsNothing, AddsText, Tries, unread_front};
 
 use crate::fault::RelayFaultKind;
+use crate::message_type::MessageType;
 use crate::{Codec, DecodeError, EncodeError};
-use asn1_schema_decode::Decode;
-use asn1_schema_encode::Encode;
 use std::alloc::Global;
 
 /// Result of an attempt to translate the message with which the unread octets begin.
@@ -33,18 +32,19 @@ pub struct Way {
 
 /// Translates the message with which `unread` begins, at most `way.limit` octets of it, and appends the translation to
 /// `out`.
-pub fn relay_front<T: Encode + Decode>(
+pub fn relay_front<M: MessageType>(
     alloc: Global,
+    message_type: &M,
     way: Way,
     unread: &[u8],
     out: &mut Vec<u8>,
 ) -> Attempt
     requires { unread.now ≢ [] }
-    ensures { Tries (rules_of way.from) (rules_of way.to) (T.schema 128) way.limit unread.now out.old.items
-        out.new.items result }
+    ensures { Tries (rules_of way.from) (rules_of way.to) (M.schema message_type.now 128) way.limit unread.now
+        out.old.items out.new.items result }
 {
     let window = &unread[..way.limit.min(unread.len())];
-    let (value, rest): (T, &[u8]) = match way.from.decode_or_need(alloc, window) {
+    let (value, rest) = match message_type.read_front(alloc, way.from, window) {
         Ok(front) => front,
         Err(refusal) => {
             let number = unread.len().saturating_add(refusal.needed);
@@ -55,7 +55,7 @@ pub fn relay_front<T: Encode + Decode>(
     if count == 0 {
         return Attempt::Stops(RelayFaultKind::EmptyMessage);
     }
-    match write(alloc, way.to, &value, out) {
+    match write(alloc, message_type, way.to, &value, out) {
         Ok(()) => Attempt::Relayed(count),
         Err(kind) => Attempt::Stops(kind),
     }
@@ -74,16 +74,19 @@ fn without_message(error: DecodeError, number: usize, is_past_limit: bool) -> At
 }
 
 /// Appends the canonical encoding of a value to `out`, unless it is empty.
-fn write<T: Encode>(
+fn write<M: MessageType>(
     alloc: Global,
+    message_type: &M,
     to: Codec,
-    value: &T,
+    value: &M::Value,
     out: &mut Vec<u8>,
 ) -> Result<(), RelayFaultKind>
-    ensures ok { OnOk result (AddsText (rules_of to) T.schema (T.meaning value.now) out.old.items out.new.items) }
-    ensures only { IfErr result (AddsNothing (rules_of to) T.schema (T.meaning value.now) out.old.items out.new.items) }
+    ensures ok { OnOk result (AddsText (rules_of to) (M.schema message_type.now) (M.means message_type.now value.now)
+        out.old.items out.new.items) }
+    ensures only { IfErr result (AddsNothing (rules_of to) (M.schema message_type.now)
+        (M.means message_type.now value.now) out.old.items out.new.items) }
 {
-    let octets = match to.encode(alloc, value) {
+    let octets = match message_type.write(alloc, to, value) {
         Ok(octets) => octets,
         Err(EncodeError::OutOfMemory) => return Err(RelayFaultKind::Memory),
         Err(_) => return Err(RelayFaultKind::NoTarget),

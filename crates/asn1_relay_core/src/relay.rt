@@ -1,42 +1,43 @@
 //! Streams of messages without separators, in pieces of any length.
 ghost use Rattle.std.specs.Prelude.{◌≡◌, ◌↔◌, ◌≤◌, IfErr, IsOk, OnOk, [], false, true, length};
-ghost use Rattle.asn1_relay_core.specs.Relaying.{IsFed, FaultOf, end_fault};
+ghost use Rattle.asn1_relay_core.specs.Relaying.{IsFed, FaultOf, end_fault, starting};
 
 use crate::Codec;
 use crate::fault::{RelayFault, RelayFaultKind};
 use crate::front::{Attempt, Way, relay_front};
-use asn1_schema_decode::Decode;
-use asn1_schema_encode::Encode;
-use asn1_schema_types::Described;
+use crate::message_type::{MessageSchema, MessageType};
 use bytes::BytesMut;
 use std::alloc::Global;
-use std::marker::{Model, PhantomData};
+use std::marker::Model;
 
-/// Translates a stream of messages of the type `T`, one after another, which arrives in pieces of any length.
+/// Translates a stream of messages of a type, one after another, which arrives in pieces of any length.
 #[derive(Drop)]
-pub struct Relay<T: Described> {
+pub struct RelayOf<M: MessageSchema> {
     alloc: Global,
+    message_type: M,
     way: Way,
     unread: BytesMut,
     // While there are fewer unread octets than this, they do not begin with a whole message.
     awaited: usize,
     number: u64,
     failed: bool,
-    messages: PhantomData<T>,
 }
 
-impl<T: Described> Model for Relay<T> {
-    ghost use Rattle.asn1_relay_core.specs.Relaying.{Relaying};
+impl<M: MessageSchema> Model for RelayOf<M> {
+    ghost use Rattle.asn1_relay_core.specs.MessageTypes.{RelayingOf};
 
-    ghost Value = { Relaying };
+    ghost Value = { RelayingOf M };
 
     ghost view = { λ r. record {
-      from = r.way.from;
-      to = r.way.to;
-      limit = r.way.limit;
-      unread = r.unread.items;
-      number = r.number;
-      failed = r.failed;
+      message_type = r.message_type;
+      relaying = record {
+        from = r.way.from;
+        to = r.way.to;
+        limit = r.way.limit;
+        unread = r.unread.items;
+        number = r.number;
+        failed = r.failed;
+      };
     } };
 
     ghost use Rattle.std.specs.Prelude.{◌≤◌};
@@ -44,37 +45,37 @@ impl<T: Described> Model for Relay<T> {
     ghost use Rattle.asn1_relay_core.specs.Attempts.{Awaits};
 
     ghost invariant = { λ r. (1 ≤ r.way.limit)
-        × Awaits (rules_of r.way.from) (T.schema 128) r.way.limit r.unread.items r.awaited };
+        × Awaits (rules_of r.way.from) (M.schema r.message_type 128) r.way.limit r.unread.items r.awaited };
 }
 
-impl<T: Encode + Decode> Relay<T> {
+impl<M: MessageType> RelayOf<M> {
     /// A relay that has read nothing. It accepts messages of 1 to `limit` octets by the rules `from`, and writes them
     /// by the rules `to`.
-    pub fn new(alloc: Global, from: Codec, to: Codec, limit: usize) -> Relay<T>
+    pub fn new(alloc: Global, message_type: M, from: Codec, to: Codec, limit: usize) -> RelayOf<M>
         requires { 1 ≤ limit }
-        ensures { result ≡ record { from = from; to = to; limit = limit; unread = []; number = 0; failed = false } }
+        ensures { result ≡ record { message_type = message_type; relaying = starting from to limit } }
     {
-        Relay {
+        RelayOf {
             alloc,
+            message_type,
             way: Way { from, to, limit },
             unread: BytesMut::new(alloc),
             awaited: 0,
             number: 0,
             failed: false,
-            messages: PhantomData,
         }
     }
 
     /// The number of unread octets: those after the last message that was translated.
     pub fn unread_len(&self) -> usize
-        ensures { result ≡ length self.now.unread }
+        ensures { result ≡ length self.now.relaying.unread }
     {
         self.unread.len()
     }
 
     /// Whether a call of `feed` has failed.
     pub fn has_failed(&self) -> bool
-        ensures { result ≡ self.now.failed }
+        ensures { result ≡ self.now.relaying.failed }
     {
         self.failed
     }
@@ -92,9 +93,13 @@ impl<T: Encode + Decode> Relay<T> {
     ///
     /// The translations of all messages before the one of the error are in `out`.
     pub fn feed(&mut self, piece: &[u8], out: &mut Vec<u8>) -> Result<(), RelayFault>
-        ensures ok { OnOk result (IsFed (T.schema 128) self.old self.new piece.now out.old.items out.new.items) }
-        ensures only { IfErr result (FaultOf (T.schema 128) self.old self.new piece.now out.old.items out.new.items) }
-        ensures empty { self.old.failed ≡ false → self.old.unread ≡ [] → piece.now ≡ [] → IsOk result }
+        ensures ok { OnOk result (IsFed (M.schema self.old.message_type 128) self.old.relaying self.new.relaying
+            piece.now out.old.items out.new.items) }
+        ensures only { IfErr result (FaultOf (M.schema self.old.message_type 128) self.old.relaying self.new.relaying
+            piece.now out.old.items out.new.items) }
+        ensures empty { self.old.relaying.failed ≡ false → self.old.relaying.unread ≡ [] → piece.now ≡ []
+            → IsOk result }
+        ensures same { self.new.message_type ≡ self.old.message_type }
     {
         if self.failed {
             return Err(self.fault(RelayFaultKind::AlreadyFailed));
@@ -112,7 +117,13 @@ impl<T: Encode + Decode> Relay<T> {
             return Ok(());
         }
         while !self.unread.is_empty() {
-            match relay_front::<T>(self.alloc, self.way, self.unread.as_slice(), out) {
+            match relay_front(
+                self.alloc,
+                &self.message_type,
+                self.way,
+                self.unread.as_slice(),
+                out,
+            ) {
                 Attempt::Relayed(count) => {
                     self.awaited = 0;
                     self.unread.advance(count);
@@ -134,8 +145,8 @@ impl<T: Encode + Decode> Relay<T> {
     ///
     /// `NoForm` if octets are unread, and `AlreadyFailed` if the relay has stopped.
     pub fn finish(&self) -> Result<(), RelayFault>
-        ensures end { IsOk result ↔ ((self.now.failed ≡ false) × (self.now.unread ≡ [])) }
-        ensures only { IfErr result (λ fault. fault ≡ end_fault self.now) }
+        ensures end { IsOk result ↔ ((self.now.relaying.failed ≡ false) × (self.now.relaying.unread ≡ [])) }
+        ensures only { IfErr result (λ fault. fault ≡ end_fault self.now.relaying) }
     {
         if self.failed {
             return Err(self.fault(RelayFaultKind::AlreadyFailed));
@@ -148,7 +159,7 @@ impl<T: Encode + Decode> Relay<T> {
 
     /// An error of this kind at the current message.
     fn fault(&self, kind: RelayFaultKind) -> RelayFault
-        ensures { result ≡ record { number = self.now.number; kind = kind } }
+        ensures { result ≡ record { number = self.now.relaying.number; kind = kind } }
     {
         RelayFault {
             number: self.number,
@@ -158,8 +169,8 @@ impl<T: Encode + Decode> Relay<T> {
 
     /// Stops at the current message.
     fn stop(&mut self, kind: RelayFaultKind) -> RelayFault
-        ensures fault { result ≡ record { number = self.old.number; kind = kind } }
-        ensures stops { self.new ≡ record self.old { failed = true } }
+        ensures fault { result ≡ record { number = self.old.relaying.number; kind = kind } }
+        ensures stops { self.new ≡ record self.old { relaying = record self.old.relaying { failed = true } } }
     {
         self.failed = true;
         self.fault(kind)

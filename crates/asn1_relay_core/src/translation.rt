@@ -6,7 +6,9 @@ ghost use Rattle.asn1_relay_core.specs.Recoding.{DetoursChangeNoAnswer, NamesNoM
 ghost use Rattle.asn1_relay_core.specs.Strictly.{StrictIsReadCanonically};
 
 use crate::codec::Codec;
-use asn1_schema_decode::Decode;
+use crate::message_type::MessageType;
+use crate::rust_type::RustType;
+use asn1_schema_decode::{Decode, Refusal};
 use asn1_schema_encode::Encode;
 use asn1_schema_errors::{DecodeError, EncodeError};
 use std::alloc::Global;
@@ -40,6 +42,17 @@ impl From<DecodeError> for RecodeFault {
             DecodeError::OutOfMemory => RecodeFault::Memory,
             error => RecodeFault::NotAnEncoding(error),
         }
+    }
+}
+
+/// The error of a translation whose input could not be decoded, and may need more octets.
+impl From<Refusal> for RecodeFault {
+    ghost use Rattle.asn1_relay_core.specs.Recoding.{source_fault_of};
+
+    ghost from_gives = { λ r f. f ≡ source_fault_of r.error };
+
+    fn from(refusal: Refusal) -> RecodeFault {
+        RecodeFault::from(refusal.error)
     }
 }
 
@@ -83,6 +96,7 @@ pub fn strict_is_read_canonically()
 /// * `Surplus`: octets follow the encoding.
 /// * `NoTarget`: the value has no encoding by the rules `to`.
 /// * `Memory`: memory ran out.
+#[inline(always)]
 pub fn recode<T: Encode + Decode>(
     alloc: Global,
     from: Codec,
@@ -97,9 +111,34 @@ pub fn recode<T: Encode + Decode>(
     ensures in_place { IfErr result NamesNoMisplacedCall }
     ensures fits { IfErr result NamesNoPlatformSize }
 {
-    let (value, rest): (T, &[u8]) = from.read_front(alloc, input)?;
+    recode_of(alloc, &RustType::<T>::new(), from, to, input)
+}
+
+/// As `recode`, for messages of a type that is passed.
+///
+/// # Errors
+///
+/// As for `recode`.
+pub fn recode_of<M: MessageType>(
+    alloc: Global,
+    message_type: &M,
+    from: Codec,
+    to: Codec,
+    input: &[u8],
+) -> Result<Vec<u8>, RecodeFault>
+    ensures right { IfSome (answer_of result)
+        (IsAnswer (rules_of from) (rules_of to) (M.schema message_type.now 128) input.now) }
+    ensures exact { (a : Answer)
+        → IsAnswer (rules_of from) (rules_of to) (M.schema message_type.now 128) input.now a
+        → (answer_of result ≡ None) ⊎ (answer_of result ≡ Some a) }
+    ensures memory { IfErr result NamesMemoryAlone }
+    ensures fresh { IfErr result NamesNoEarlierRefusal }
+    ensures in_place { IfErr result NamesNoMisplacedCall }
+    ensures fits { IfErr result NamesNoPlatformSize }
+{
+    let (value, rest) = message_type.read_front(alloc, from, input)?;
     if !rest.is_empty() {
         return Err(RecodeFault::Surplus);
     }
-    Ok(to.encode(alloc, &value)?)
+    Ok(message_type.write(alloc, to, &value)?)
 }

@@ -2,6 +2,8 @@ pub mod Lists
 pub mod Members
 pub mod Roots
 pub mod Additions
+pub mod Choices
+pub mod Noting
 pub mod Turning
 pub mod Normal
 pub mod Suspending

@@ -1,4 +1,4 @@
--- The members of a list, one after another.
+-- The elements of a list, one after another.
 use Rattle.std.proofs.Common.{◌≡◌, ◌∙◌, refl, sym, ap, subst, ℕ, suc, ◌+◌, ◌<◌, Bool, true, false, List, [], ◌∷◌, ◌++◌, length, arith}
 use Rattle.std.specs.Prelude.{slice_set as set}
 use Rattle.asn1_model.specs.Value.{Value, Values, no_more, member, members, bag, map_members}
@@ -21,14 +21,14 @@ count_mapped : (g : Value → Value) (vs : Values) → member_count (map_members
 count_mapped g no_more = refl
 count_mapped g (member v vs) = ap suc (count_mapped g vs)
 
--- what is first asked of members
+-- what is first asked of elements
 first_further : {S : Type 0} (step : S → Record → S → Type 0) (s : Schema) (ws : Values) (a c : S) → Chain step (member_records (λ v. presents s v) ws) a c →
     (y : Bool) × (m : S) × step a (further y) m
 first_further step s no_more a c p = (false, p.0, p.1)
 first_further step s (member w ws) a c p = (true, p.0, p.1)
 
 module _ {S : Type 0} {step : S → Record → S → Type 0} where
-  -- a member, and those behind it
+  -- an element, and those after it
   member_told : {f : ℕ → Record} {h : Counts} {s : Schema} {i k : ℕ} {a b c d : S} {K K1 K2 K3 : List Record} → step a (further true) b → K1 ≡ K ++ further true ∷ [] → Told step s b c K1 K2 →
       EndsMembers step f h s i (k + 1) c d K2 K3 → EndsMembers step f h s i k a d K K3
   member_told {f} {h} {s} {i} {k} {a} {b} {c} {d} {K} {K1} {K2} {K3} m e t r =
@@ -45,7 +45,7 @@ module _ {S : Type 0} {step : S → Record → S → Type 0} where
             (f n)) q;
       }
 
-  -- no more members, and the end
+  -- no more elements, and the end
   pub last_told : {f : ℕ → Record} {h : Counts} {s : Schema} {i k : ℕ} {a : S} (b : S) {c : S} {K K1 K2 K3 : List Record} → step a (further false) b → K1 ≡ K ++ further false ∷ [] →
       step b ends c → K2 ≡ K1 ++ ends ∷ [] → K3 ≡ set K2 i (f k) → is_count_within h k ≡ true → EndsMembers step f h s i k a c K K3
   last_told {f} {h} {s} {i} {k} {a} b {c} {K} {K1} {K2} {K3} m e n q2 g w =
@@ -59,7 +59,7 @@ module _ {S : Type 0} {step : S → Record → S → Type 0} where
       }
 
   module _ (one : OneRecord step) {few within : S → S → S → Type 0} (carries : CarriesMembers step few within) where
-    -- no member comes where there is no further one
+    -- no element comes where there is no further one
     none_further : (s : Schema) (ws : Values) {a b : S} (c : S) → step a (further false) b → Chain step (member_records (λ v. presents s v) ws) a c → (ws ≡ no_more) × step b ends c
     none_further s no_more {a} {b} c m p = (
       refl,
@@ -68,7 +68,7 @@ module _ {S : Type 0} {step : S → Record → S → Type 0} where
     )
     none_further s (member w ws) {a} {b} c m p = let e : further true ≡ further false = (one a (further true) (further false) p.0 b refl p.1 m).0 in cc
 
-    -- a member comes where there is a further one
+    -- an element comes where there is a further one
     one_further : (s : Schema) (ws : Values) {a b : S} (c : S) → step a (further true) b → AllFit (λ v. Fits s v) ws → Chain step (member_records (λ v. presents s v) ws) a c →
         (w : Value) × (us : Values) × (member_count ws ≡ suc (member_count us)) × Fits s w × AllFit (λ v. Fits s v) us × Chain step (presents s w ++ member_records (λ v. presents s v) us) b c
     one_further s no_more {a} {b} c m g p = let e : further false ≡ further true = (one a (further false) (further true) p.0 b refl p.1 m).0 in cc
@@ -82,7 +82,7 @@ module _ {S : Type 0} {step : S → Record → S → Type 0} where
           (one a (further true) (further true) p.0 b refl p.1 m).1 p.2,
     )
 
-    -- where the input does not say whether there is a further member
+    -- where the input does not say whether there is a further element
     pub further_stuck : {h : Counts} {s : Schema} {k : ℕ} {a failed : S} {x : DecodeError} → NoRecord step few asks_further a failed x → StuckMembers step within h s k a failed x
     further_stuck {s = s} {a = a} {failed = failed} u = record {
       none = λ m start near vs c w g p.
@@ -90,7 +90,7 @@ module _ {S : Type 0} {step : S → Record → S → Type 0} where
           carries.asked a failed (λ d l v e r. u.none m d l (further v) e refl r) start near t.0 t.1 t.2;
     }
 
-    -- where what is behind a member is not next
+    -- where what is after an element is not next
     pub member_passed : {h : Counts} {s : Schema} {k : ℕ} {a b c failed : S} {x : DecodeError} {K1 K2 : List Record} → step a (further true) b → Told step s b c K1 K2 →
         StuckMembers step within h s (k + 1) c failed x → StuckMembers step within h s k a failed x
     member_passed {h} {s} {k} {a} {b} {c} {failed} m t u = record {
@@ -103,7 +103,7 @@ module _ {S : Type 0} {step : S → Record → S → Type 0} where
           u.none y z.1 z.4 q.1 e (subst (λ (n : ℕ). is_count_within h n ≡ true) i w) q.4 (subst (λ (o : S). Chain step (member_records (λ v. presents s v) q.1) o e) l.1 r.2);
     }
 
-    -- where the value of a member is not next
+    -- where the value of an element is not next
     pub member_stuck : {h : Counts} {s : Schema} {k : ℕ} {a b failed : S} {x : DecodeError} → is_lawful s ≡ true → step a (further true) b → NoValue step few s b failed x →
         StuckMembers step within h s k a failed x
     member_stuck {s = s} {a = a} {b = b} {failed = failed} lawful m u = record {
@@ -113,7 +113,7 @@ module _ {S : Type 0} {step : S → Record → S → Type 0} where
           carries.stuck s lawful a b failed m (λ d l v o f p. u.none y d l v o f p) start z.0 near z.1 t.0 t.1 e t.3 t.5;
     }
 
-    -- where there is a member more than are held
+    -- where there is an element more than are held
     pub full_stuck : {h : Counts} {s : Schema} {k : ℕ} {a b : S} (failed : S) (x : DecodeError) → ((n : ℕ) → is_count_within h (k + suc n) ≡ true → ⊥) → step a (further true) b →
         StuckMembers step within h s k a failed x
     full_stuck {h} {s} {k} {a} {b} failed x full m = record {
@@ -133,7 +133,7 @@ module _ {S : Type 0} {step : S → Record → S → Type 0} where
           u.none y z.0 z.2 ends e refl t.1;
     }
 
-    -- one turn at the members: a further one comes
+    -- one turn at the elements: a further one comes
     pub member_awaited : {f : ℕ → Record} {h : Counts} {s : Schema} {i k : ℕ} {a b : S} {K K1 : List Record} → is_lawful s ≡ true → step a (further true) b → K1 ≡ K ++ further true ∷ [] →
         Awaits step few within (listed f h s i k) (listed f h s i (k + 1)) s a b K K1
     member_awaited lawful m e = record {

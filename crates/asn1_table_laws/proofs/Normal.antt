@@ -6,7 +6,7 @@ use Rattle.asn1_model.specs.Value.{Value, members, bag, fields, chosen, Values, 
 use Rattle.asn1_model.specs.Schema.{Tag, Presence, required, optional, by_default, Schema, sequence_of, set_of}
 use Rattle.asn1_model.specs.Schema.{sequence, set, group, choice, Components, no_component, component, Alternatives}
 use Rattle.asn1_model.specs.Schema.{no_alternative, alternative}
-use Rattle.asn1_model.specs.Normal.{normal, normal_parts, normal_alternative, is_default_by, is_empty_group, is_required}
+use Rattle.asn1_model.specs.Normal.{normal, normal_parts, normal_alternative, is_default_by, is_empty_group, is_required, is_at_default, is_group_left_out}
 use Rattle.asn1_model.specs.Lawful.{is_lawful, are_lawful, are_lawful_alternatives, are_groups_in_place, is_group}
 use Rattle.asn1_model.specs.Lawful.{is_optional, is_sequence_table, are_counts, are_no_components, are_distinct}
 use Rattle.asn1_model.specs.Lawful.{tag_same, component_tags, component_places, are_ascending, tag_less, are_tags_of}
@@ -81,6 +81,10 @@ unfolding left
 not_required added required s w g e = placed added required (is_group s) g (a_group s w e)
 not_required added optional s w g e = refl
 not_required added (by_default d) s w g e = refl
+
+pub not_required_there : (o : Presence) (s : Schema) (v : Value) → (not (is_group s) || is_optional o) ≡ true → (is_at_default o s v || is_group_left_out s v) ≡ true → is_required o ≡ false
+unfolding left
+not_required_there o s v g e = not_required true o s (normal s v) g e
 
 part_fits : (t : List Tag) (o : Presence) (s : Schema) (cs : Components) (w : Value) (qs : Parts) (b : Bool) → (b ≡ true → is_required o ≡ false) → Fits s w → PartsFit cs qs →
     PartsFit (component t o s cs) (cond b (absent qs) (present w qs))

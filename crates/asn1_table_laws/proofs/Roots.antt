@@ -1,12 +1,12 @@
 -- The root components of a sequence, one after another, and what follows them.
-use Rattle.std.proofs.Common.{◌≡◌, ◌∙◌, refl, sym, ap, subst, ℕ, ◌<◌, Bool, true, false, List, [], ◌∷◌, ◌++◌}
+use Rattle.std.proofs.Common.{◌≡◌, ◌∙◌, refl, sym, ap, subst, ℕ, ◌<◌, Bool, true, false, List, [], ◌∷◌, ◌++◌, length}
 use Rattle.std.specs.Prelude.{◌||◌, not}
 use Rattle.asn1_model.specs.Value.{Value, Parts, fields, end, absent, present}
-use Rattle.asn1_model.specs.Schema.{Tag, Presence, required, optional, by_default, Schema, sequence, set, Components, no_component, component}
+use Rattle.asn1_model.specs.Schema.{Tag, Presence, required, optional, by_default, Schema, sequence, set, group, Components, no_component, component}
 use Rattle.asn1_model.specs.Normal.{normal, normal_parts, is_required, is_at_default}
 use Rattle.asn1_model.specs.Lawful.{is_group, are_no_components}
 use Rattle.asn1_schema_errors.specs.declared.DecodeError.{DecodeError}
-use Rattle.asn1_schema_laws.specs.Records.{Record, sequence_begins, set_begins, presence_bit, additions_begin, asks_sequence, asks_set, asks_presence_bit, asks_additions}
+use Rattle.asn1_schema_laws.specs.Records.{Record, question, sequence_begins, set_begins, group_begins, presence_bit, additions_begin, asks_presence_bit, asks_additions}
 use Rattle.asn1_schema_laws.specs.Presents.{Part, left_out, there, with_part, presents, part_records, noted}
 use Rattle.asn1_schema_laws.specs.Presents.{root_records, added_records, behind_root, optional_count, component_count}
 use Rattle.asn1_schema_laws.specs.Presents.{Fits, PartFits, PartsFit}
@@ -16,11 +16,11 @@ use Rattle.asn1_schema_laws.proofs.Chains.{chain_append, chain_split}
 use Rattle.asn1_schema_laws.proofs.OneValue.{one_value, one_part}
 use Rattle.asn1_schema_laws.proofs.Values.{not_empty, normal_field, fits_field}
 use Rattle.asn1_schema_laws.proofs.Joined.{nothing_noted, there_records, present_records}
-use Rattle.asn1_schema_lacking_laws.specs.Carried.{CarriesRecords, CarriesValues}
+use Rattle.asn1_schema_lacking_laws.specs.Carried.{keeps_members, CarriesRecords, CarriesValues}
 use Rattle.asn1_schema_decode.specs.Reads.{NoRecord, NoLevel, UnreadPart}
 use Rattle.asn1_schema_decode.proofs.Carrying.{carry_part}
 use Rattle.asn1_schema_decode.proofs.Reading.{unread_presence_bit, unread_present}
-use Rattle.asn1_table_laws.specs.Walks.{Told, NoValue, EndsRoot, EndsAdded, StuckRoot, StuckAdded, root, added, Begun, Passes, Awaits}
+use Rattle.asn1_table_laws.specs.Walks.{Told, NoValue, EndsRoot, EndsAdded, EndsNoting, StuckRoot, StuckAdded, StuckNoting, root, noting, added, Begun, Passes, Awaits}
 use Rattle.asn1_table_laws.proofs.Lists.{behind}
 
 -- whether a component has a default
@@ -115,7 +115,7 @@ module _ {S : Type 0} {step : S → Record → S → Type 0} where
     ];
   }
 
-  -- ---- a component, and those behind it
+  -- ---- a component, and those after it
   part_told : {t : List Tag} {o : Presence} {s : Schema} {cs : Components} {e : Bool} {adds : Components} {a b c : S} {K K1 K2 : List Record} → ToldPart step o s a b K K1 →
       EndsRoot step cs e adds b c K1 K2 → EndsRoot step (component t o s cs) e adds a c K K2
   part_told {t} {o} {s} {cs} {e} {adds} {a} {b} {c} {K} {K1} {K2} h r =
@@ -140,6 +140,27 @@ module _ {S : Type 0} {step : S → Record → S → Type 0} where
         let d = parts_of t o s cs ps (behind_root e adds (added_records adds qs)) start c f p in
         u.none w start near d.0 d.2 d.3 d.5;
   }
+
+  -- the value of a component with a default, and what is noted of it
+  noting_told : {t : List Tag} {o : Presence} {s : Schema} {cs : Components} {e : Bool} {adds : Components} {place : ℕ} {a b c d : S} {K K1 K2 K3 : List Record} → is_required o ≡ false →
+      place ≡ length K → step a (presence_bit true) b → K1 ≡ K ++ presence_bit true ∷ [] → Told step s b c K1 K2 → EndsNoting step o s place cs e adds c d K2 K3 →
+      EndsRoot step (component t o s cs) e adds a d K K3
+  noting_told {o = o} {s = s} {a = a} {b = b} {c = c} {K = K} q j m k h r =
+      let n = r.of_each K h.raw (sym j) h.fits (behind K (presence_bit true ∷ []) (presents s (normal s h.raw)) k h.kept) in
+      let read : Chain step (part_records (λ v. presents s v) o s (there h.raw)) a n.behind =
+      rw q (b, m, chain_append step (presents s h.raw) (noted o s h.raw) b c n.behind h.chain n.notes) in
+      part_told (record { raw = there h.raw; fits = h.fits; chain = read; kept = refl }) n.rest
+
+  -- a component comes where its presence bit is 1
+  there_comes : OneRecord step → (o : Presence) (s : Schema) (x : Part) (a b c : S) → is_required o ≡ false → step a (presence_bit true) b → PartFits (λ v. Fits s v) o x →
+      Chain step (part_records (λ v. presents s v) o s x) a c → (v : Value) × Fits s v × Chain step (presents s v ++ noted o s v) b c
+  there_comes one o s left_out a b c r m f p =
+      let q : Chain step (presence_bit false ∷ []) a c = rw r at p in
+      let e : presence_bit false ≡ presence_bit true = (one a (presence_bit false) (presence_bit true) q.0 b refl q.1 m).0 in
+      cc
+  there_comes one o s (there v) a b c r m f p =
+      let q : Chain step (presence_bit true ∷ (presents s v ++ noted o s v)) a c = rw r at p in
+      (v, f, subst (λ (z : S). Chain step (presents s v ++ noted o s v) z c) (one a (presence_bit true) (presence_bit true) q.0 b refl q.1 m).1 q.2)
 
   module _ (one : OneRecord step) {few : S → S → S → Type 0} (carries : CarriesRecords step few) where
     pub bit_stuck : {t : List Tag} {o : Presence} {s : Schema} {cs : Components} {e : Bool} {adds : Components} {a failed : S} {x : DecodeError} → is_required o ≡ false →
@@ -233,6 +254,32 @@ module _ {S : Type 0} {step : S → Record → S → Type 0} where
         stuck = λ failed x u. part_stuck (unread_present one carries o {s = λ _. s} {n = 0} q m u);
       }
 
+      -- one with a default whose value comes
+      noting_passed : {t : List Tag} {o : Presence} {s : Schema} {cs : Components} {e : Bool} {adds : Components} {place : ℕ} {a b c failed : S} {x : DecodeError} (K : List Record)
+          {K1 K2 : List Record} →
+          is_required o ≡ false → place ≡ length K → step a (presence_bit true) b → K1 ≡ K ++ presence_bit true ∷ [] → Told step s b c K1 K2 →
+          StuckNoting step few o s place cs e adds K2 c failed x → StuckRoot step few (component t o s cs) e adds a failed x
+      noting_passed {t} {o} {s} {cs} {e} {adds} {place} {a} {b} {c} {failed} {x} K {K1} {K2} q j m k h u = record {
+        none = λ w start near ps qs end f g p.
+            let rest = behind_root e adds (added_records adds qs) in
+            let y = carries (presence_bit true) a b failed start refl m near in
+            let z = values s h.raw b c failed y.0 h.chain y.2 in
+            let d = parts_of t o s cs ps rest start end f p in
+            let v = there_comes one o s d.0 start y.0 d.2 q y.1 d.3 d.5 in
+            let l = chain_split step (presents s v.0) (noted o s v.0) y.0 d.2 v.2 in
+            let i = one_value one s v.0 h.raw y.0 l.0 z.0 v.1 h.fits l.1 z.1 in
+            let n = subst (λ (v : Value). Chain step (noted o s v) z.0 d.2) i.0 (subst (λ (t : S). Chain step (noted o s v.0) t d.2) i.1 l.2) in
+            u.none w K h.raw (sym j) h.fits (behind K (presence_bit true ∷ []) (presents s (normal s h.raw)) k h.kept) z.0 z.2 d.2 n d.1 qs end d.4 g d.6;
+      }
+
+      pub noting_awaited : {within : S → S → S → Type 0} {t : List Tag} {o : Presence} {s : Schema} {cs : Components} {e : Bool} {adds : Components} {place : ℕ} {a b : S} {K K1 : List Record} →
+          is_required o ≡ false → place ≡ length K → step a (presence_bit true) b → K1 ≡ K ++ presence_bit true ∷ [] →
+          Awaits step few within (root (component t o s cs) e adds) (noting o s place cs e adds) s a b K K1
+      noting_awaited {o = o} {s = s} {K = K} q j m k = record {
+        passes = λ c more h. record { done = λ d last r. noting_told q j m k h r; stuck = λ failed x u. noting_passed K q j m k h u };
+        stuck = λ failed x u. part_stuck (unread_present one carries o {s = λ _. s} {n = 0} q m u);
+      }
+
       -- the additions
       pub rest_passes : {within : S → S → S → Type 0} {e : Bool} {adds : Components} {a b : S} {K K1 : List Record} → (e || not (are_no_components adds)) ≡ true →
           step a (additions_begin (component_count adds)) b → K1 ≡ K ++ additions_begin (component_count adds) ∷ [] → Passes step few within (root no_component e adds) (added adds) a b K K1
@@ -242,68 +289,99 @@ module _ {S : Type 0} {step : S → Record → S → Type 0} where
           Passes step few within (root no_component e adds) (added adds) a a K K
       end_passes q = record { done = λ c more r. end_told q r; stuck = λ failed x u. end_passed q u }
 
-      -- a sequence begins
-      pub sequence_begun : {within : S → S → S → Type 0} {cs : Components} {e : Bool} {adds : Components} {a b : S} {K K1 : List Record} → step a (sequence_begins e (optional_count cs)) b →
-          K1 ≡ K ++ sequence_begins e (optional_count cs) ∷ [] → Begun step few within (sequence cs e adds) (root cs e adds) a b K K1
-      unfolding presents Fits normal
-      sequence_begun {cs} {e} {adds} {a} {b} {K} m k = record {
-        done = λ c more r. record {
-          raw = fields r.raw r.additions;
-          fits = (r.fits, r.fits_added);
-          chain = (b, m, r.chain);
-          kept = behind K (sequence_begins e (optional_count cs) ∷ []) (root_records cs (normal_parts cs r.raw) (behind_root e adds (added_records adds (normal_parts adds r.additions)))) k r.kept;
-        };
-        stuck = λ failed x u. record {
-          none = λ w start near v c.
-              let i = carries (sequence_begins e (optional_count cs)) a b failed start refl m near in
-              elim v as (λ v. Fits (sequence cs e adds) v → Chain step (presents (sequence cs e adds) v) start c → ⊥) [
-                | fields ps qs ↦ λ g p. u.none w i.0 i.2 ps qs c g.0 g.1 (subst (λ (z : S). Chain step (root_records cs ps (behind_root e adds (added_records adds qs))) z c)
-                    (one start (sequence_begins e (optional_count cs)) (sequence_begins e (optional_count cs)) p.0 i.0 refl p.1 i.1).1 p.2)
-                | _ ↦ λ g p. g
-              ];
-        };
-      }
+-- ---- a value of components begins
 
-      -- a set begins
-      pub set_begun : {within : S → S → S → Type 0} {cs : Components} {e : Bool} {adds : Components} {a b : S} {K K1 : List Record} → step a (set_begins e (optional_count cs)) b →
-          K1 ≡ K ++ set_begins e (optional_count cs) ∷ [] → Begun step few within (set cs e adds) (root cs e adds) a b K K1
-      unfolding presents Fits normal
-      set_begun {cs} {e} {adds} {a} {b} {K} m k = record {
-        done = λ c more r. record {
-          raw = fields r.raw r.additions;
-          fits = (r.fits, r.fits_added);
-          chain = (b, m, r.chain);
-          kept = behind K (set_begins e (optional_count cs) ∷ []) (root_records cs (normal_parts cs r.raw) (behind_root e adds (added_records adds (normal_parts adds r.additions)))) k r.kept;
-        };
-        stuck = λ failed x u. record {
-          none = λ w start near v c.
-              let i = carries (set_begins e (optional_count cs)) a b failed start refl m near in
-              elim v as (λ v. Fits (set cs e adds) v → Chain step (presents (set cs e adds) v) start c → ⊥) [
-                | fields ps qs ↦ λ g p. u.none w i.0 i.2 ps qs c g.0 g.1 (subst (λ (z : S). Chain step (root_records cs ps (behind_root e adds (added_records adds qs))) z c)
-                    (one start (set_begins e (optional_count cs)) (set_begins e (optional_count cs)) p.0 i.0 refl p.1 i.1).1 p.2)
-                | _ ↦ λ g p. g
-              ];
-        };
-      }
+-- a type whose values are components after a record: a SEQUENCE, a SET, or a group of additions
+pub record Composed (s : Schema) (r : Record) (cs : Components) (e : Bool) (adds : Components) : Type 0 where
+  pub fits : (ps qs : Parts) → PartsFit cs ps → PartsFit adds qs → Fits s (fields ps qs)
+  pub is_normal : (ps qs : Parts) → PartsFit adds qs → normal s (fields ps qs) ≡ fields (normal_parts cs ps) (normal_parts adds qs)
+  pub presented : (ps qs : Parts) → PartsFit adds qs → presents s (fields ps qs) ≡ r ∷ root_records cs ps (behind_root e adds (added_records adds qs))
+  pub presented_normal : (ps qs : Parts) → PartsFit adds qs →
+      presents s (fields (normal_parts cs ps) (normal_parts adds qs)) ≡ r ∷ root_records cs (normal_parts cs ps) (behind_root e adds (added_records adds (normal_parts adds qs)))
+  pub made_of : (v : Value) → Fits s v → (ps : Parts) × (qs : Parts) × (v ≡ fields ps qs) × PartsFit cs ps × PartsFit adds qs
 
--- no sequence begins here
-pub no_sequence : {S : Type 0} {step : S → Record → S → Type 0} {few : S → S → S → Type 0} (cs : Components) {e : Bool} (adds : Components) {m : ℕ} {a failed : S} {x : DecodeError} → 0 < m →
-    NoLevel step few (asks_sequence e (optional_count cs)) m a failed x → NoValue step few (sequence cs e adds) a failed x
-unfolding presents Fits
-no_sequence {step = step} cs {e} adds l k = record {
-  none = λ w start near v c. elim v as (λ v. Fits (sequence cs e adds) v → Chain step (presents (sequence cs e adds) v) start c → ⊥) [
-    | fields ps qs ↦ λ g p. k.none w start near l _ p.0 refl p.1
-    | _ ↦ λ g p. g
+pub composed_sequence : (cs : Components) (e : Bool) (adds : Components) → Composed (sequence cs e adds) (sequence_begins e (optional_count cs)) cs e adds
+unfolding presents Fits normal
+composed_sequence cs e adds = record {
+  fits = λ ps qs f g. (f, g);
+  is_normal = λ ps qs g. refl;
+  presented = λ ps qs g. refl;
+  presented_normal = λ ps qs g. refl;
+  made_of = λ v. elim v as (λ v. Fits (sequence cs e adds) v → (ps : Parts) × (qs : Parts) × (v ≡ fields ps qs) × PartsFit cs ps × PartsFit adds qs) [
+    | fields ps qs ↦ λ f. (ps, qs, refl, f.0, f.1)
+    | _ ↦ λ f. absurd f
   ];
 }
 
--- no set begins here
-pub no_set : {S : Type 0} {step : S → Record → S → Type 0} {few : S → S → S → Type 0} (cs : Components) {e : Bool} (adds : Components) {m : ℕ} {a failed : S} {x : DecodeError} → 0 < m →
-    NoLevel step few (asks_set e (optional_count cs)) m a failed x → NoValue step few (set cs e adds) a failed x
-unfolding presents Fits
-no_set {step = step} cs {e} adds l k = record {
-  none = λ w start near v c. elim v as (λ v. Fits (set cs e adds) v → Chain step (presents (set cs e adds) v) start c → ⊥) [
-    | fields ps qs ↦ λ g p. k.none w start near l _ p.0 refl p.1
-    | _ ↦ λ g p. g
+pub composed_set : (cs : Components) (e : Bool) (adds : Components) → Composed (set cs e adds) (set_begins e (optional_count cs)) cs e adds
+unfolding presents Fits normal
+composed_set cs e adds = record {
+  fits = λ ps qs f g. (f, g);
+  is_normal = λ ps qs g. refl;
+  presented = λ ps qs g. refl;
+  presented_normal = λ ps qs g. refl;
+  made_of = λ v. elim v as (λ v. Fits (set cs e adds) v → (ps : Parts) × (qs : Parts) × (v ≡ fields ps qs) × PartsFit cs ps × PartsFit adds qs) [
+    | fields ps qs ↦ λ f. (ps, qs, refl, f.0, f.1)
+    | _ ↦ λ f. absurd f
   ];
 }
+
+-- a group has no additions of its own
+no_parts : (qs : Parts) → PartsFit no_component qs → qs ≡ end
+unfolding PartsFit
+no_parts end f = refl
+no_parts (absent qs) f = absurd f
+no_parts (present v qs) f = absurd f
+
+group_presented : (cs : Components) (ps qs : Parts) → qs ≡ end →
+    presents (group cs) (fields ps qs) ≡ group_begins (optional_count cs) ∷ root_records cs ps (behind_root false no_component (added_records no_component qs))
+unfolding presents added_records
+group_presented cs ps qs e = rw e refl
+
+pub composed_group : (cs : Components) → Composed (group cs) (group_begins (optional_count cs)) cs false no_component
+unfolding Fits normal normal_parts PartsFit
+composed_group cs = record {
+  fits = λ ps qs f g. (f, no_parts qs g);
+  is_normal = λ ps qs g. refl;
+  presented = λ ps qs g. group_presented cs ps qs (no_parts qs g);
+  presented_normal = λ ps qs g. group_presented cs (normal_parts cs ps) qs (no_parts qs g);
+  made_of = λ v. elim v as (λ v. Fits (group cs) v → (ps : Parts) × (qs : Parts) × (v ≡ fields ps qs) × PartsFit cs ps × PartsFit no_component qs) [
+    | fields ps qs ↦ λ f. (ps, qs, refl, f.0, subst (λ (qs : Parts). PartsFit no_component qs) (sym f.1) tt)
+    | _ ↦ λ f. absurd f
+  ];
+}
+
+-- none of its records is next without the first
+first_of : {S : Type 0} (step : S → Record → S → Type 0) {s : Schema} {r : Record} {cs : Components} {e : Bool} {adds : Components} → Composed s r cs e adds → {start : S} (v : Value) (c : S) →
+    Fits s v → Chain step (presents s v) start c →
+    (ps : Parts) × (qs : Parts) × PartsFit cs ps × PartsFit adds qs × Chain step (r ∷ root_records cs ps (behind_root e adds (added_records adds qs))) start c
+first_of step {s} made {start} v c f p =
+    let d = made.made_of v f in
+    let i = ap (λ w. presents s w) d.2 ∙ made.presented d.0 d.1 d.4 in
+    (d.0, d.1, d.3, d.4, subst (λ rs. Chain step rs start c) i p)
+
+module _ {S : Type 0} {step : S → Record → S → Type 0} {s : Schema} {r : Record} {cs : Components} {e : Bool} {adds : Components} (made : Composed s r cs e adds) where
+  pub none_begun : {few : S → S → S → Type 0} {m : ℕ} {a failed : S} {x : DecodeError} → 0 < m → NoLevel step few (question r) m a failed x → NoValue step few s a failed x
+  none_begun l k = record { none = λ w start near v c f p. let d = first_of step made v c f p in k.none w start near l r d.4.0 refl d.4.1 }
+
+  pub components_begun : OneRecord step → {few : S → S → S → Type 0} → CarriesRecords step few → keeps_members r ≡ true → {within : S → S → S → Type 0} {a b : S} {K K1 : List Record} →
+      step a r b → K1 ≡ K ++ r ∷ [] → Begun step few within s (root cs e adds) a b K K1
+  components_begun one carries l {a = a} {b} {K} {K1} m k = record {
+    done = λ c more q.
+        let i = made.is_normal q.raw q.additions q.fits_added in
+        let j = made.presented_normal q.raw q.additions q.fits_added in
+        record {
+          raw = fields q.raw q.additions;
+          fits = made.fits q.raw q.additions q.fits q.fits_added;
+          chain = subst (λ rs. Chain step rs a c) (sym (made.presented q.raw q.additions q.fits_added)) (b, m, q.chain);
+          kept = behind K (r ∷ []) (root_records cs (normal_parts cs q.raw) (behind_root e adds (added_records adds (normal_parts adds q.additions)))) k q.kept
+              ∙ ap (λ rs. K ++ rs) (sym (ap (λ w. presents s w) i ∙ j));
+        };
+    stuck = λ failed x u. record {
+      none = λ w start near v c f p.
+          let i = carries r a b failed start l m near in
+          let d = first_of step made v c f p in
+          let h = (one start r r d.4.0 i.0 refl d.4.1 i.1).1 in
+          u.none w i.0 i.2 d.0 d.1 c d.2 d.3 (subst (λ (z : S). Chain step (root_records cs d.0 (behind_root e adds (added_records adds d.1))) z c) h d.4.2);
+    };
+  }

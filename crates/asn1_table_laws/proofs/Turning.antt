@@ -45,7 +45,7 @@ module _ {S : Type 0} {step : S → Record → S → Type 0} {few within : S →
     );
   }
 
-  pub stuck_turn : {p : Pending} {ps : List Pending} {a failed : S} {x : DecodeError} {K : List Record} → Stuck step few within p a failed x → StuckFrom step few within (p ∷ ps) a failed K x
+  pub stuck_turn : {p : Pending} {ps : List Pending} {a failed : S} {x : DecodeError} {K : List Record} → Stuck step few within p K a failed x → StuckFrom step few within (p ∷ ps) a failed K x
   unfolding Goes
   stuck_turn {failed = failed} {x = x} u = record { none = λ s start k g. g.1 failed x u }
 

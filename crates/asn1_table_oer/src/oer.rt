@@ -2,17 +2,20 @@
 #![tactic(auto, using(std::proofs::lemmas::Grind::common_steps))]
 
 ghost use Rattle.std.specs.Prelude.{◌≡◌, IfOk, IfErr};
-ghost use Rattle.asn1_schema_decode.specs.Messages.{NoMessage};
+ghost use Rattle.asn1_schema_decode.specs.Messages.{NeedsMore, NoMessage};
 ghost use Rattle.asn1_schema_encode.specs.Written.{IsOfValue};
 ghost use Rattle.asn1_table_walker.specs.Fronts.{TellsOnto};
 ghost use Rattle.asn1_table_walker.specs.Texts.{EncodedIn, NotEncodedIn};
 ghost use Rattle.asn1_table_types.specs.Meaning.{type_at};
-ghost use Rattle.asn1_table_walker.specs.Frames.{records_of};
+ghost use Rattle.asn1_table_tape.specs.Records.{records_of};
 ghost use Rattle.oer_codec.specs.Messages.{rules_of};
 ghost use Rattle.oer_codec_encoder.specs.Written.{octet_rules};
 
+use asn1_schema_decode::Refusal;
 use asn1_schema_errors::{DecodeError, EncodeError, refusal, within_limit};
-use asn1_table_walker::{Event, ServedTypes, read_onto, replay};
+use asn1_table_tape::{Event, replay};
+use asn1_table_types::Types;
+use asn1_table_walker::read_onto;
 use oer_codec::oer::{Decoder, DecoderOptions, Encoder, EncoderOptions, EncodingRules};
 use std::alloc::Global;
 
@@ -25,19 +28,22 @@ const FIRST_CAPACITY: usize = 128;
 /// # Errors
 ///
 /// `OutOfMemory` if memory runs out. Otherwise only if no prefix of the input that is shorter than 2^60 octets is an
-/// encoding of a value of the type with at most 128 nested levels.
+/// encoding of a value of the type with at most 128 nested levels. The error also says how many more octets are needed
+/// at least.
 pub fn decode_oer<'input>(
     alloc: Global,
-    types: &ServedTypes,
+    types: &Types,
     place: usize,
     input: &'input [u8],
     rules: EncodingRules,
-) -> Result<(Vec<Event>, &'input [u8]), DecodeError>
-    ensures ok { IfOk result (λ x. TellsOnto (rules_of rules) (type_at types.now.types.nodes.items 128 place)
-        (records_of types.now.types.nodes.items x.0.items) input.now x.1.now) }
+) -> Result<(Vec<Event>, &'input [u8]), Refusal>
+    ensures ok { IfOk result (λ x. TellsOnto (rules_of rules) (type_at types.now.nodes.items 128 place)
+        (records_of types.now.nodes.items x.0.items) input.now x.1.now) }
     ensures only { IfErr result
-        (NoMessage (rules_of rules) (λ _. type_at types.now.types.nodes.items 128 place) input.now) }
-    ensures fresh { IfErr result (λ e. e ≡ DecodeError.AlreadyFailed → ⊥) }
+        (λ r. NoMessage (rules_of rules) (λ _. type_at types.now.nodes.items 128 place) input.now r.error) }
+    ensures needed { IfErr result (λ r. NeedsMore (rules_of rules)
+        (λ _. type_at types.now.nodes.items 128 place) input.now r.needed r.error) }
+    ensures fresh { IfErr result (λ r. r.error ≡ DecodeError.AlreadyFailed → ⊥) }
 {
     let mut decoder = Decoder::new(alloc, input, DecoderOptions { rules });
     let looked_at = decoder.remaining().len();
@@ -48,7 +54,10 @@ pub fn decode_oer<'input>(
             let (_, rest) = input.split_at(taken);
             Ok((tape, rest))
         }
-        Err(error) => Err(error),
+        Err(error) => {
+            let needed = decoder.needed();
+            Err(Refusal { error, needed })
+        }
     }
 }
 
@@ -58,14 +67,10 @@ pub fn decode_oer<'input>(
 ///
 /// `TooLongValue` for an encoding of 2^60 octets or more and for nothing else, `OutOfMemory`, and others if the value
 /// has no encoding of any length.
-pub fn encode_oer(
-    alloc: Global,
-    types: &ServedTypes,
-    tape: &[Event],
-) -> Result<Vec<u8>, EncodeError>
+pub fn encode_oer(alloc: Global, types: &Types, tape: &[Event]) -> Result<Vec<u8>, EncodeError>
     ensures ok { IfOk result
-        (λ octets. EncodedIn octet_rules (records_of types.now.types.nodes.items tape.now) octets.items) }
-    ensures only { IfErr result (NotEncodedIn octet_rules (records_of types.now.types.nodes.items tape.now)) }
+        (λ octets. EncodedIn octet_rules (records_of types.now.nodes.items tape.now) octets.items) }
+    ensures only { IfErr result (NotEncodedIn octet_rules (records_of types.now.nodes.items tape.now)) }
     ensures kinds { IfErr result IsOfValue }
 {
     let mut output = Vec::with_capacity(alloc, FIRST_CAPACITY)?;

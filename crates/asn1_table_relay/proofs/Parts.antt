@@ -1,6 +1,6 @@
 -- What is written in two sets of rules is written in each.
-use Rattle.std.proofs.Common.{◌≡◌, ap, subst, ℕ, List, [], ◌∷◌, cond, Bool, true, false, sym}
-use Rattle.asn1_model.specs.Rules.{Rules, aper, uper, aper_strict, uper_strict}
+use Rattle.std.proofs.Common.{ℕ, List, [], ◌∷◌}
+use Rattle.asn1_model.specs.Rules.{Rules}
 use Rattle.asn1_schema_errors.specs.declared.EncodeError.{EncodeError}
 use Rattle.asn1_schema_laws.specs.Records.{Record}
 use Rattle.asn1_table_walker.specs.Texts.{EncodedIn, NotEncodedIn}

@@ -4,18 +4,20 @@
 ghost use Rattle.std.specs.Prelude.{◌≡◌, [], ◌∷◌, IfOk, IfErr};
 ghost use Rattle.asn1_model.specs.Rules.{uper, aper, uper_strict, aper_strict, oer, coer};
 ghost use Rattle.asn1_relay_core.specs.Coding.{rules_of};
-ghost use Rattle.asn1_schema_decode.specs.Messages.{NoMessage};
+ghost use Rattle.asn1_schema_decode.specs.Messages.{NeedsMore, NoMessage};
 ghost use Rattle.asn1_schema_encode.specs.Written.{IsOfValue};
 ghost use Rattle.asn1_table_types.specs.Meaning.{type_at};
-ghost use Rattle.asn1_table_walker.specs.Frames.{records_of};
+ghost use Rattle.asn1_table_tape.specs.Records.{records_of};
 ghost use Rattle.asn1_table_walker.specs.Fronts.{TellsOnto};
 ghost use Rattle.asn1_table_walker.specs.Texts.{EncodedIn, NotEncodedIn};
 
 use asn1_relay_core::Codec;
+use asn1_schema_decode::Refusal;
 use asn1_schema_errors::{DecodeError, EncodeError};
 use asn1_table_oer::{decode_oer, encode_oer};
 use asn1_table_per::{decode_per, encode_per};
-use asn1_table_walker::{Event, ServedTypes};
+use asn1_table_tape::Event;
+use asn1_table_types::Types;
 use oer_codec::oer::EncodingRules;
 use per_codec_encoder::EncoderOptions;
 use per_codec_reading::PackedRules;
@@ -27,19 +29,22 @@ use std::alloc::Global;
 /// # Errors
 ///
 /// `OutOfMemory` if memory runs out. Otherwise only if no prefix of the input that is shorter than 2^60 octets is an
-/// encoding of a value of the type with at most 128 nested levels.
+/// encoding of a value of the type with at most 128 nested levels. The error also says how many more octets are needed
+/// at least.
 pub fn read_front<'input>(
     alloc: Global,
-    types: &ServedTypes,
+    types: &Types,
     place: usize,
     from: Codec,
     input: &'input [u8],
-) -> Result<(Vec<Event>, &'input [u8]), DecodeError>
-    ensures ok { IfOk result (λ x. TellsOnto (rules_of from) (type_at types.now.types.nodes.items 128 place)
-        (records_of types.now.types.nodes.items x.0.items) input.now x.1.now) }
+) -> Result<(Vec<Event>, &'input [u8]), Refusal>
+    ensures ok { IfOk result (λ x. TellsOnto (rules_of from) (type_at types.now.nodes.items 128 place)
+        (records_of types.now.nodes.items x.0.items) input.now x.1.now) }
     ensures only { IfErr result
-        (NoMessage (rules_of from) (λ _. type_at types.now.types.nodes.items 128 place) input.now) }
-    ensures fresh { IfErr result (λ e. e ≡ DecodeError.AlreadyFailed → ⊥) }
+        (λ r. NoMessage (rules_of from) (λ _. type_at types.now.nodes.items 128 place) input.now r.error) }
+    ensures needed { IfErr result (λ r. NeedsMore (rules_of from)
+        (λ _. type_at types.now.nodes.items 128 place) input.now r.needed r.error) }
+    ensures fresh { IfErr result (λ r. r.error ≡ DecodeError.AlreadyFailed → ⊥) }
 {
     match from {
         Codec::Uper => decode_per(alloc, types, place, input, PackedRules::Uper),
@@ -59,14 +64,14 @@ pub fn read_front<'input>(
 /// has no encoding of any length.
 pub fn write(
     alloc: Global,
-    types: &ServedTypes,
+    types: &Types,
     to: Codec,
     tape: &[Event],
 ) -> Result<Vec<u8>, EncodeError>
     ensures ok { IfOk result
-        (λ octets. EncodedIn (rules_of to ∷ []) (records_of types.now.types.nodes.items tape.now) octets.items) }
+        (λ octets. EncodedIn (rules_of to ∷ []) (records_of types.now.nodes.items tape.now) octets.items) }
     ensures only { IfErr result
-        (NotEncodedIn (rules_of to ∷ []) (records_of types.now.types.nodes.items tape.now)) }
+        (NotEncodedIn (rules_of to ∷ []) (records_of types.now.nodes.items tape.now)) }
     ensures kinds { IfErr result IsOfValue }
 {
     match to {
@@ -80,18 +85,14 @@ pub fn write(
 }
 
 // UPER, lenient or strict: what is written is the same.
-fn write_unaligned(
-    alloc: Global,
-    types: &ServedTypes,
-    tape: &[Event],
-) -> Result<Vec<u8>, EncodeError>
+fn write_unaligned(alloc: Global, types: &Types, tape: &[Event]) -> Result<Vec<u8>, EncodeError>
     ensures ok { IfOk result
-        (λ octets. EncodedIn (uper ∷ []) (records_of types.now.types.nodes.items tape.now) octets.items) }
+        (λ octets. EncodedIn (uper ∷ []) (records_of types.now.nodes.items tape.now) octets.items) }
     ensures same { IfOk result
-        (λ octets. EncodedIn (uper_strict ∷ []) (records_of types.now.types.nodes.items tape.now) octets.items) }
-    ensures only { IfErr result (NotEncodedIn (uper ∷ []) (records_of types.now.types.nodes.items tape.now)) }
+        (λ octets. EncodedIn (uper_strict ∷ []) (records_of types.now.nodes.items tape.now) octets.items) }
+    ensures only { IfErr result (NotEncodedIn (uper ∷ []) (records_of types.now.nodes.items tape.now)) }
     ensures same_only { IfErr result
-        (NotEncodedIn (uper_strict ∷ []) (records_of types.now.types.nodes.items tape.now)) }
+        (NotEncodedIn (uper_strict ∷ []) (records_of types.now.nodes.items tape.now)) }
     ensures kinds { IfErr result IsOfValue }
 {
     match encode_per(alloc, types, tape, EncoderOptions::unaligned()) {
@@ -101,14 +102,14 @@ fn write_unaligned(
 }
 
 // The same of APER.
-fn write_aligned(alloc: Global, types: &ServedTypes, tape: &[Event]) -> Result<Vec<u8>, EncodeError>
+fn write_aligned(alloc: Global, types: &Types, tape: &[Event]) -> Result<Vec<u8>, EncodeError>
     ensures ok { IfOk result
-        (λ octets. EncodedIn (aper ∷ []) (records_of types.now.types.nodes.items tape.now) octets.items) }
+        (λ octets. EncodedIn (aper ∷ []) (records_of types.now.nodes.items tape.now) octets.items) }
     ensures same { IfOk result
-        (λ octets. EncodedIn (aper_strict ∷ []) (records_of types.now.types.nodes.items tape.now) octets.items) }
-    ensures only { IfErr result (NotEncodedIn (aper ∷ []) (records_of types.now.types.nodes.items tape.now)) }
+        (λ octets. EncodedIn (aper_strict ∷ []) (records_of types.now.nodes.items tape.now) octets.items) }
+    ensures only { IfErr result (NotEncodedIn (aper ∷ []) (records_of types.now.nodes.items tape.now)) }
     ensures same_only { IfErr result
-        (NotEncodedIn (aper_strict ∷ []) (records_of types.now.types.nodes.items tape.now)) }
+        (NotEncodedIn (aper_strict ∷ []) (records_of types.now.nodes.items tape.now)) }
     ensures kinds { IfErr result IsOfValue }
 {
     match encode_per(alloc, types, tape, EncoderOptions::aligned()) {
@@ -118,14 +119,14 @@ fn write_aligned(alloc: Global, types: &ServedTypes, tape: &[Event]) -> Result<V
 }
 
 // OER and COER: what is written is the same.
-fn write_octets(alloc: Global, types: &ServedTypes, tape: &[Event]) -> Result<Vec<u8>, EncodeError>
+fn write_octets(alloc: Global, types: &Types, tape: &[Event]) -> Result<Vec<u8>, EncodeError>
     ensures ok { IfOk result
-        (λ octets. EncodedIn (oer ∷ []) (records_of types.now.types.nodes.items tape.now) octets.items) }
+        (λ octets. EncodedIn (oer ∷ []) (records_of types.now.nodes.items tape.now) octets.items) }
     ensures same { IfOk result
-        (λ octets. EncodedIn (coer ∷ []) (records_of types.now.types.nodes.items tape.now) octets.items) }
-    ensures only { IfErr result (NotEncodedIn (oer ∷ []) (records_of types.now.types.nodes.items tape.now)) }
+        (λ octets. EncodedIn (coer ∷ []) (records_of types.now.nodes.items tape.now) octets.items) }
+    ensures only { IfErr result (NotEncodedIn (oer ∷ []) (records_of types.now.nodes.items tape.now)) }
     ensures same_only { IfErr result
-        (NotEncodedIn (coer ∷ []) (records_of types.now.types.nodes.items tape.now)) }
+        (NotEncodedIn (coer ∷ []) (records_of types.now.nodes.items tape.now)) }
     ensures kinds { IfErr result IsOfValue }
 {
     match encode_oer(alloc, types, tape) {

@@ -7,9 +7,9 @@ ghost use Rattle.asn1_relay_core.specs.Recoding.{answer_of, Answer, IsAnswer, Na
 ghost use Rattle.asn1_relay_core.specs.Recoding.{NamesNoMisplacedCall, NamesNoPlatformSize};
 ghost use Rattle.asn1_table_types.specs.Meaning.{type_at};
 
-use crate::codecs::{read_front, write};
-use asn1_relay_core::{Codec, RecodeFault};
-use asn1_table_walker::ServedTypes;
+use crate::table_type::TableType;
+use asn1_relay_core::{Codec, RecodeFault, recode_of};
+use asn1_table_types::Types;
 use std::alloc::Global;
 
 /// Translates one message of the type at this index of a table: octets that are one encoding in the rules `from`, of a
@@ -21,25 +21,21 @@ use std::alloc::Global;
 /// octets follow one, `NoTarget` if the value has no encoding in the rules `to`, and `Memory` if memory runs out.
 pub fn recode_by(
     alloc: Global,
-    types: &ServedTypes,
+    types: &Types,
     place: usize,
     from: Codec,
     to: Codec,
     input: &[u8],
 ) -> Result<Vec<u8>, RecodeFault>
     ensures right { IfSome (answer_of result)
-        (IsAnswer (rules_of from) (rules_of to) (type_at types.now.types.nodes.items 128 place) input.now) }
+        (IsAnswer (rules_of from) (rules_of to) (type_at types.now.nodes.items 128 place) input.now) }
     ensures exact { (a : Answer)
-        → IsAnswer (rules_of from) (rules_of to) (type_at types.now.types.nodes.items 128 place) input.now a
+        → IsAnswer (rules_of from) (rules_of to) (type_at types.now.nodes.items 128 place) input.now a
         → (answer_of result ≡ None) ⊎ (answer_of result ≡ Some a) }
     ensures memory { IfErr result NamesMemoryAlone }
     ensures fresh { IfErr result NamesNoEarlierRefusal }
     ensures in_place { IfErr result NamesNoMisplacedCall }
     ensures fits { IfErr result NamesNoPlatformSize }
 {
-    let (tape, rest) = read_front(alloc, types, place, from, input)?;
-    if !rest.is_empty() {
-        return Err(RecodeFault::Surplus);
-    }
-    Ok(write(alloc, types, to, tape.as_slice())?)
+    recode_of(alloc, &TableType { types, place }, from, to, input)
 }

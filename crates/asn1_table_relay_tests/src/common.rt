@@ -4,7 +4,6 @@ use asn1_schema_constraints::{Bounded, Sizes};
 use asn1_schema_tags::Tag;
 use asn1_table_relay::recode_by;
 use asn1_table_types::{Component, Presence, TypeNode, Types};
-use asn1_table_walker::ServedTypes;
 use std::alloc::{AllocError, Global};
 
 /// Types, unless no memory was found for them.
@@ -30,18 +29,15 @@ pub fn part(
     })
 }
 
-/// The types of a table, if each is well-formed and served.
-fn served(alloc: Global, nodes: Nodes) -> Option<ServedTypes> {
+/// The types of a table, if each is well-formed.
+pub fn table(alloc: Global, nodes: Nodes) -> Option<Types> {
     match nodes {
-        Ok(nodes) => match Types::new(alloc, nodes) {
-            Ok(types) => ServedTypes::new(types).ok(),
-            Err(_) => None,
-        },
+        Ok(nodes) => Types::new(alloc, nodes).ok(),
         Err(_) => None,
     }
 }
 
-/// Whether one message becomes another, from rules to others, by the type at a place of a table.
+/// Whether one message becomes another, from rules to others, by the type at an index of a table.
 pub fn becomes(
     alloc: Global,
     nodes: Nodes,
@@ -51,7 +47,7 @@ pub fn becomes(
     message: &[u8],
     other: &[u8],
 ) -> bool {
-    let Some(types) = served(alloc, nodes) else {
+    let Some(types) = table(alloc, nodes) else {
         return false;
     };
     match recode_by(alloc, &types, place, from, to, message) {
@@ -62,22 +58,8 @@ pub fn becomes(
 
 /// Whether a message is refused.
 pub fn is_refused(alloc: Global, nodes: Nodes, place: usize, from: Codec, message: &[u8]) -> bool {
-    let Some(types) = served(alloc, nodes) else {
+    let Some(types) = table(alloc, nodes) else {
         return false;
     };
     recode_by(alloc, &types, place, from, from, message).is_err()
-}
-
-/// Whether a table is refused for a kind that is not served.
-pub fn is_unserved(alloc: Global, nodes: Nodes, place: usize) -> bool {
-    match nodes {
-        Ok(nodes) => match Types::new(alloc, nodes) {
-            Ok(types) => match ServedTypes::new(types) {
-                Ok(_) => false,
-                Err(error) => error.place == place,
-            },
-            Err(_) => false,
-        },
-        Err(_) => false,
-    }
 }

@@ -1,7 +1,13 @@
-//! Tests of translations by tables of types: octets by hand in UPER and COER.
+//! Tests of translations by tables of types: octets by hand in UPER, OER and COER.
 #![tactic(auto)]
 
 #[cfg(test)]
+mod choices;
+#[cfg(test)]
 mod common;
 #[cfg(test)]
+mod defaults;
+#[cfg(test)]
 mod messages;
+#[cfg(test)]
+mod streams;

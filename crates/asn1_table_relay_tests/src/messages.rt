@@ -1,16 +1,14 @@
 //! Messages in UPER and in COER.
-use crate::common::{ANY, Nodes, becomes, is_refused, is_unserved, part};
+use crate::common::{ANY, Nodes, becomes, is_refused, part};
 use asn1_relay_core::Codec;
 use asn1_schema_constraints::{Bounded, Sizes};
-use asn1_schema_tags::Tag;
 use asn1_table_types::{
-    Alternative, AlternativeTable, ComponentTable, ItemTable, NumberLimits, Presence, StringKind,
-    StringTable, TypeNode,
+    ComponentTable, ItemTable, NumberLimits, Presence, StringKind, StringTable, TypeNode,
 };
 use std::alloc::{AllocError, Global};
 
 /// SEQUENCE {a BOOLEAN, b INTEGER (-5..5) OPTIONAL, c SEQUENCE OF BOOLEAN, ..., d INTEGER (-5..5) OPTIONAL}, at 3.
-fn record(alloc: Global) -> Nodes {
+pub fn record(alloc: Global) -> Nodes {
     let limits = NumberLimits {
         root: Bounded::Range {
             start: Some(-5),
@@ -42,9 +40,9 @@ fn record(alloc: Global) -> Nodes {
 }
 
 /// {a TRUE, b 3, c {TRUE, FALSE}, d -5} in UPER (X.691 19, 13.2, 20) and COER (X.696 16, 10, 17).
-const PACKED: [u8; 6] = [0xF0, 0x05, 0x00, 0x80, 0x80, 0x00];
+pub const PACKED: [u8; 6] = [0xF0, 0x05, 0x00, 0x80, 0x80, 0x00];
 
-const OCTETS: [u8; 12] = [
+pub const OCTETS: [u8; 12] = [
     0xC0, 0xFF, 0x03, 0x01, 0x02, 0xFF, 0x00, 0x02, 0x07, 0x80, 0x01, 0xFB,
 ];
 
@@ -164,7 +162,7 @@ fn scalars_from_octets(rt: HostRuntime) {
 }
 
 /// SET {a SET OF INTEGER (0..255), b VisibleString}, at 3.
-fn set(alloc: Global) -> Nodes {
+pub fn set(alloc: Global) -> Nodes {
     let octet = NumberLimits {
         root: Bounded::const_new(0, 255),
         is_extensible: false,
@@ -197,10 +195,10 @@ fn set(alloc: Global) -> Nodes {
 }
 
 /// {a {2, 1}, b "AB"} in UPER, its elements in another order than the canonical one (X.691 22 and 30).
-const PACKED_SET: [u8; 6] = [0x02, 0x02, 0x01, 0x02, 0x83, 0x08];
+pub const PACKED_SET: [u8; 6] = [0x02, 0x02, 0x01, 0x02, 0x83, 0x08];
 
 /// The same in COER (X.696 19 and 27).
-const SET_OCTETS: [u8; 7] = [0x01, 0x02, 0x01, 0x02, 0x02, 0x41, 0x42];
+pub const SET_OCTETS: [u8; 7] = [0x01, 0x02, 0x01, 0x02, 0x02, 0x41, 0x42];
 
 #[test]
 fn a_set_from_bits(rt: HostRuntime) {
@@ -216,24 +214,4 @@ fn a_set_from_bits(rt: HostRuntime) {
             &SET_OCTETS
         )
     );
-}
-
-/// CHOICE {BOOLEAN}, at 1.
-fn choice(alloc: Global) -> Nodes {
-    let alternative = Alternative {
-        tag: Tag::new_context(0),
-        place: 0,
-    };
-    let table = AlternativeTable {
-        root: Vec::from_array(alloc, [alternative])?,
-        is_extensible: false,
-        additions: Vec::new(alloc),
-    };
-    Ok(Vec::from_array(alloc, [TypeNode::Boolean, TypeNode::Choice(table)])?)
-}
-
-#[test]
-fn a_kind_that_is_not_served(rt: HostRuntime) {
-    let alloc = rt.alloc();
-    assert!(rt; is_unserved(alloc, choice(alloc), 1));
 }

@@ -39,7 +39,7 @@ pub fn is_made(alloc: Global, nodes: Nodes) -> bool {
     }
 }
 
-/// Whether a table of these types is refused for a flaw of the type at a place.
+/// Whether a table of these types is refused for a flaw of the type at an index.
 pub fn is_refused(alloc: Global, nodes: Nodes, place: usize, flaw: Flaw) -> bool {
     match nodes {
         Ok(nodes) => match Types::new(alloc, nodes) {
@@ -73,7 +73,7 @@ pub fn part(
     })
 }
 
-/// Components that are always there, each with one of these tags, and of the type at a place.
+/// Components that are always there, each with one of these tags, and of the type at an index.
 pub fn parts(alloc: Global, tags: &[u32], place: usize) -> Result<Vec<Component>, AllocError> {
     let mut all = Vec::new(alloc);
     for tag in tags {

@@ -1,4 +1,4 @@
-//! A table for each flaw: it is refused for that flaw, at the place of the type that has it.
+//! A table for each flaw: it is refused for that flaw, at the index of the type that has it.
 use crate::common::{ANY, Nodes, WRONG, choice, is_refused, part, parts, table};
 use asn1_schema_constraints::Bounded;
 use asn1_table_types::{ComponentTable, Flaw, ItemTable, NumberLimits, Presence, TypeNode};

@@ -75,7 +75,7 @@ fn each_kind(rt: HostRuntime) {
     assert!(rt; is_made(alloc, Ok(Vec::new(alloc))));
 }
 
-/// A SEQUENCE whose only component is of the type at a place.
+/// A SEQUENCE whose only component is of the type at an index.
 fn one(alloc: Global, presence: Presence, place: usize) -> Result<TypeNode, AllocError> {
     Ok(TypeNode::Sequence(ComponentTable {
         root: Vec::from_array(alloc, [part(alloc, &[0], presence, place)?])?,

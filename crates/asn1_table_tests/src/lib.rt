@@ -1,6 +1,8 @@
-//! Tests of tables of types: one of each kind, one for each flaw, and defaults.
+//! Tests of tables of types: one of each kind, one for each flaw, defaults, and tags of a CHOICE.
 #![tactic(auto)]
 
+#[cfg(test)]
+mod choices;
 #[cfg(test)]
 mod common;
 #[cfg(test)]

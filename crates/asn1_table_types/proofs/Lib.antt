@@ -6,3 +6,5 @@ pub mod Unlawful
 pub mod Sound
 pub mod Deciding
 pub mod Scalars
+pub mod Inserting
+pub mod Tagged

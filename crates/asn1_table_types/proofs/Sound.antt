@@ -262,7 +262,7 @@ module _ (ns : List TypeNode) (sound : (i : ℕ) → is_sound (type_at ns 2 i) �
   pub all_lawful : AreLawful ns
   all_lawful n i = lawful_at n (slice_get ns i) (sound i) (typed n i)
 
--- Types that meet it at each place of a table meet it at every place.
+-- Types that meet it at each index of a table meet it at every index.
 pub everywhere : (ns : List TypeNode) (n : ℕ) → length ns ≤ n → ((i : ℕ) → i < n → is_sound (type_at ns 2 i) ≡ true) → (i : ℕ) → is_sound (type_at ns 2 i) ≡ true
 everywhere ns n h sound i = go (cases_lt i n) where
   go : (i < n) ⊎ (n ≤ i) → is_sound (type_at ns 2 i) ≡ true

@@ -180,7 +180,7 @@ unlawful s f e = go (is_lawful s) refl where
 pub each_lacks : (f : Flaw) (cs : Components) (e : Bool) (adds : Components) → (some_lacks f false cs || some_lacks f true adds) ≡ true → table_lacks f cs e adds ≡ true
 each_lacks f cs e adds h = or_right _ _ h
 
--- What a node lacks, the type at its place lacks.
+-- What a node lacks, the type at its index lacks.
 pub refused_at : (ns : List TypeNode) (n i : ℕ) (f : Flaw) (x : TypeNode) → slice_get ns i ≡ Some x → lacks (type_of ns n (Some x)) f ≡ true → IsUnlawful ns i f
 refused_at ns n i f x e h =
     let l : lacks (type_at ns n i) f ≡ true = ap (λ o. lacks (type_of ns n o) f) e ∙ h in

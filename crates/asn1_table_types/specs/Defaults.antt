@@ -42,12 +42,12 @@ is_scalar (node.OctetString z) (event.Octets os) =
 is_scalar node.ObjectIdentifier (event.Arcs ns) = is_identifier ns
 is_scalar x e = false
 
--- Something is so at some number of levels.
+-- Some number of levels has this answer.
 pub record AtSome (holds : ℕ → Bool) (answer : Bool) : Type 0 where
   pub levels : ℕ
   pub told : holds levels ≡ answer
 
--- An answer is whether it is so at every number of levels.
+-- True: it holds at every number of levels. False: it fails at some.
 abbrev pub Decides : (ℕ → Bool) → Bool → Type 0
 Decides f true = (n : ℕ) → f n ≡ true
 Decides f false = AtSome f false

@@ -15,7 +15,7 @@ use Rattle.asn1_table_types.specs.declared.faults.Flaw.TheVariants.{GroupOutOfPl
 use Rattle.asn1_table_types.specs.declared.faults.Flaw.TheVariants.{ItemTwice, ComponentMissing, AlternativeMissing}
 use Rattle.asn1_table_types.specs.declared.faults.Flaw.TheVariants.{TagsOutOfOrder, DefaultOfOtherType}
 
--- A group is among additions (true) alone, and there optional.
+-- A group occurs only among additions, and there as optional (X.680 25).
 abbrev pub is_in_place : Bool → Presence → Schema → Bool
 is_in_place added o s = cond added (not (is_group s) || is_optional o) (not (is_group s))
 
@@ -37,13 +37,13 @@ are_together cs e adds =
 abbrev pub is_table : Components → Bool → Components → Bool
 is_table cs e adds = are_together cs e adds && (are_components false cs && are_components true adds)
 
--- The items of an ENUMERATED (X.680 20).
+-- The items of an ENUMERATED (X.680 20), listed by ascending number (X.691 14.1).
 abbrev pub are_items : List ℤ → Bool → List ℤ → Bool
 are_items roots e adds =
     not (is_empty roots) && (e || is_empty adds) && are_ascending int_lt roots && are_ascending int_lt adds
     && are_distinct same_number (roots ++ adds)
 
--- The root components of a SET stand in the order of their tags.
+-- The root components of a SET are in the order of their tags (X.680 8.6, X.691 21).
 abbrev pub is_set_table : Components → Bool → Components → Bool
 is_set_table cs e adds = is_table cs e adds && are_ascending tag_less (component_places cs)
 

@@ -4,3 +4,4 @@ pub mod Defaults
 pub mod Orders
 pub mod Flaws
 pub mod Tables
+pub mod Choices

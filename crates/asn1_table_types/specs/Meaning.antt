@@ -1,5 +1,5 @@
--- What a table of types means: the type at each place, unfolded to any number of nested levels. Each constructed type
--- takes a level, so a type may lead back to itself.
+-- What a table of types means: the type at each index, unfolded to any number of nested levels. Each constructed type
+-- takes a level, so a type may be recursive.
 use Rattle.std.specs.Prelude.{ℕ, zero, suc, Bool, true, false, List, [], ◌∷◌, map, flat_map, Option, Some, None}
 use Rattle.std.specs.Prelude.{slice_get}
 use Rattle.asn1_model.specs.Schema as model
@@ -57,7 +57,7 @@ presence_of Required = model.required
 presence_of Optional = model.optional
 presence_of (Default tape) = model.by_default (value_of tape.items)
 
--- Components, with the type at each place.
+-- Components, with the type at each index.
 abbrev pub components_of : (ℕ → Schema) → List Component → Components
 components_of f [] = no_component
 components_of f (c ∷ cs) = component (map tag_of c.tags.items) (presence_of c.presence) (f c.place)
@@ -76,7 +76,7 @@ least_of (t ∷ ts) = smallest t ts ∷ []
 abbrev pub places_in : List Component → List model.Tag
 places_in cs = flat_map (λ c. least_of (map tag_of c.tags.items)) cs
 
--- Alternatives, with the type at each place.
+-- Alternatives, with the type at each index.
 abbrev pub alternatives_of : (ℕ → Schema) → List Alternative → Alternatives
 alternatives_of f [] = no_alternative
 alternatives_of f (a ∷ others) = alternative (tag_of a.tag) (f a.place) (alternatives_of f others)
@@ -85,7 +85,7 @@ alternatives_of f (a ∷ others) = alternative (tag_of a.tag) (f a.place) (alter
 abbrev pub tags_among : List Alternative → List model.Tag
 tags_among others = map (λ a. tag_of a.tag) others
 
--- A node of a table, unfolded to a number of levels; a place outside of the table is as one below the cut of a
+-- A node of a table, unfolded to a number of levels; an index outside of the table is as one below the cut of a
 -- recursive type. Lists hold as many elements as 64 bits count.
 abbrev pub type_of : List TypeNode → ℕ → Option TypeNode → Schema
 type_of ns n None = cut
@@ -119,7 +119,7 @@ type_of ns (suc n) (Some (node.Choice t)) =
     choice (alternatives_of (λ i. type_of ns n (slice_get ns i)) t.root.items) t.is_extensible
     (alternatives_of (λ i. type_of ns n (slice_get ns i)) t.additions.items)
 
--- The type at a place of a table, unfolded to a number of levels.
+-- The type at an index of a table, unfolded to a number of levels.
 abbrev pub type_at : List TypeNode → ℕ → ℕ → Schema
 type_at ns n i = type_of ns n (slice_get ns i)
 

@@ -15,14 +15,14 @@ use Rattle.asn1_table_types.specs.declared.nodes.TypeNode.{TypeNode}
 abbrev pub AreLawful : List TypeNode → Type 0
 AreLawful ns = (n i : ℕ) → is_lawful (type_at ns n i) ≡ true
 
--- There is a type at this place that is not lawful: unfolded to some number of levels it lacks this.
+-- There is a type at this index that is not lawful: unfolded to some number of levels it lacks this.
 pub record IsUnlawful (ns : List TypeNode) (i : ℕ) (f : Flaw) : Type 0 where
   pub levels : ℕ
   pub there : i < length ns
   pub lacking : lacks (type_at ns levels i) f ≡ true
   pub unlawful : is_lawful (type_at ns levels i) ≡ false
 
--- A refusal is right: the type at its place lacks what it says.
+-- A refusal is right: the type at its index lacks what it says.
 abbrev pub IsRefused : List TypeNode → TableError → Type 0
 IsRefused ns (Unlawful i f) = IsUnlawful ns i f
 IsRefused ns OutOfMemory = Unit {0}
@@ -37,7 +37,7 @@ abbrev pub IsDueAt : (ℕ → Flaw → Bool) → Refusal → Type 0
 IsDueAt lacking (Flawed f) = AtSome (λ n. lacking n f) true
 IsDueAt lacking NoMemory = Unit {0}
 
--- The refusal of the type at a place.
+-- The refusal of the type at an index.
 abbrev pub error_of : ℕ → Refusal → TableError
 error_of i (Flawed f) = Unlawful i f
 error_of i NoMemory = OutOfMemory

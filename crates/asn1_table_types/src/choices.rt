@@ -125,6 +125,15 @@ fn tags_of(
     Ok(tags)
 }
 
+/// The tags of alternatives.
+pub fn alternative_tags(alloc: Global, alternatives: &[Alternative]) -> Result<Vec<Tag>, AllocError>
+    ensures { IfOk result (λ tags. map tag_of tags.items ≡ tags_among alternatives.now) }
+{
+    let mut tags = Vec::new(alloc);
+    append_tags(&mut tags, alternatives)?;
+    Ok(tags)
+}
+
 /// Appends the tags of alternatives.
 fn append_tags(tags: &mut Vec<Tag>, alternatives: &[Alternative]) -> Result<(), AllocError>
     ensures { OnOk result (map tag_of tags.new.items ≡ map tag_of tags.old.items ++ tags_among alternatives.now) }

@@ -265,7 +265,7 @@ fn may_stand(nodes: &[TypeNode], component: &Component, added: bool) -> bool
         || (added && matches!(component.presence, Presence::Optional))
 }
 
-/// Whether the type at a place may begin with these tags: a CHOICE without a tag of its own with those of all its
+/// Whether the type at an index may begin with these tags: a CHOICE without a tag of its own with those of all its
 /// alternatives, a group of additions with those of its components (X.680 25, 29 and 31).
 #[tactic(auto, using(crate::proofs::TagLaws::one_tag, std::proofs::lemmas::Grind::common_steps))]
 fn begins_with_tags(

@@ -74,7 +74,7 @@ fn is_right(nodes: &[TypeNode], component: &Component) -> bool
     }
 }
 
-/// Whether a tape has a value of the type at a place.
+/// Whether a tape has a value of the type at an index.
 fn is_of_type(nodes: &[TypeNode], place: usize, tape: &[Event]) -> bool
     ensures { Decides (λ n. is_of (type_at nodes.now n place) (value_of tape.now)) result }
 {

@@ -1,9 +1,9 @@
-//! Values on a tape: what comes of a value in turn.
+//! Values without parts, of which a default is one.
 use asn1_values_bit_strings::BitString;
 use asn1_values_identifiers::ObjectIdentifier;
 use asn1_values_integers::Integer;
 
-/// What comes next of a value.
+/// A value without parts.
 #[derive(Drop)]
 pub enum Event {
     /// A value of BOOLEAN (X.680 18).

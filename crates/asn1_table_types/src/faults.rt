@@ -63,7 +63,7 @@ pub enum TableError {
         /// What is wrong with it.
         flaw: Flaw,
     },
-    /// No memory was found for the check.
+    /// Memory ran out during the check.
     #[error("out of memory")]
     OutOfMemory,
 }
@@ -73,7 +73,7 @@ pub enum TableError {
 pub enum Refusal {
     /// This is wrong with it.
     Flawed(Flaw),
-    /// No memory was found for the check.
+    /// Memory ran out during the check.
     NoMemory,
 }
 

@@ -6,7 +6,7 @@ ghost use Rattle.asn1_table_types.specs.Meaning.{type_at};
 
 use crate::{Flaw, TypeNode};
 
-/// Whether the type at a place is a group of additions.
+/// Whether the type at an index is a group of additions.
 pub fn is_group_at(nodes: &[TypeNode], place: usize) -> bool
     ensures { result ≡ is_group (type_at nodes.now 1 place) }
 {

@@ -2,6 +2,7 @@
 #![tactic(auto)]
 
 mod checks;
+mod choice_tags;
 mod choices;
 mod components;
 mod defaults;

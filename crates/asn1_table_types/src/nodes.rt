@@ -1,4 +1,4 @@
-//! The types of a table as an author writes them. A type names another by its place in the table, counted from 0. At a
+//! The types of a table as an author writes them. A type names another by its index in the table, counted from 0. At a
 //! place outside the table is a type without values, as below the levels to which a recursive type is unfolded.
 use crate::Event;
 use asn1_schema_constraints::{Bounded, Sizes};
@@ -23,7 +23,7 @@ pub enum TypeNode {
     CharacterString(StringTable),
     /// OBJECT IDENTIFIER (X.680 32).
     ObjectIdentifier,
-    /// SEQUENCE OF (X.680 26): its sizes, and the place of its elements' type.
+    /// SEQUENCE OF (X.680 26): its sizes, and the index of its elements' type.
     SequenceOf(Sizes, usize),
     /// SET OF (X.680 28): the same.
     SetOf(Sizes, usize),
@@ -130,7 +130,8 @@ pub enum Presence {
     Required,
     /// OPTIONAL.
     Optional,
-    /// DEFAULT, with the value that is meant where it is absent.
+    /// DEFAULT, with the value that is meant where it is absent: exactly one event. So the default of a character
+    /// string, or of a type with parts, cannot be given.
     Default(Vec<Event>),
 }
 

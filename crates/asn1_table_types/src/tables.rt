@@ -1,45 +1,68 @@
 //! Tables of types that are lawful.
-ghost use Rattle.std.specs.Prelude.{◌≡◌, ℕ, true, IfOk, IfErr, OnOk, Some, slice_get};
+ghost use Rattle.std.specs.Prelude.{◌≡◌, ℕ, true, IfOk, IfErr, OnOk, Some, map, slice_get};
 ghost use Rattle.std.specs.Option.{option_copied};
+ghost use Rattle.asn1_table_types.specs.Choices.{tags_at, tags_in};
 ghost use Rattle.asn1_table_types.specs.Flaws.{is_sound, has_defaults, lacks};
 ghost use Rattle.asn1_table_types.specs.Meaning.{type_of, type_at};
 ghost use Rattle.asn1_table_types.specs.Tables.{AreLawful, IsRefused, IsDueAt, error_of};
 
 use crate::checks::check_node;
+use crate::choice_tags::{AlternativeTags, choices_of};
 use crate::defaults::check_defaults;
 use crate::faults::Refusal;
 use crate::{TableError, TypeNode};
+use asn1_schema_tags::TagTables;
 use std::alloc::Global;
 
-/// Types each of which is lawful, in whatever depth it is unfolded.
+/// Types, each of them lawful, however deep it is unfolded.
 #[derive(Drop)]
 pub struct Types {
     nodes: Vec<TypeNode>,
+    // Of each node the tags, if it is a CHOICE.
+    choices: Vec<Option<AlternativeTags>>,
     pub ghost lawful: { AreLawful nodes.items },
+    pub ghost tagged: { choices.items ≡ map tags_in nodes.items },
 }
 
 impl Types {
-    /// A table of these types, where each of them is lawful in whatever depth it is unfolded.
+    /// A table of these types, if each is lawful, however deep it is unfolded. An index may be outside the table.
+    ///
+    /// # Errors
+    ///
+    /// `Unlawful` with the index of a type that is not lawful and what is wrong with it; `OutOfMemory`.
     pub fn new(alloc: Global, nodes: Vec<TypeNode>) -> Result<Types, TableError>
         ensures types { IfOk result (λ types. types.nodes ≡ nodes) }
         ensures refused { IfErr result (λ e. IsRefused nodes.items e) }
     {
         check_all(alloc, nodes.as_slice())?;
-        Ok(Types { nodes })
+        match choices_of(alloc, nodes.as_slice()) {
+            Ok(choices) => Ok(Types { nodes, choices }),
+            Err(_) => Err(TableError::OutOfMemory),
+        }
     }
 
-    /// The types, by their places.
+    /// The types, by their indices.
     pub fn nodes(&self) -> &[TypeNode]
         ensures { result.now ≡ self.now.nodes.items }
     {
         self.nodes.as_slice()
     }
 
-    /// The type at a place, if there is one.
+    /// The type at an index, if there is one.
     pub fn node(&self, place: usize) -> Option<&TypeNode>
         ensures { option_copied result ≡ slice_get self.now.nodes.items place }
     {
         self.nodes.get(place)
+    }
+
+    /// The tags of the CHOICE at an index, as a codec takes them (X.680 29), if a CHOICE is there.
+    pub fn choice_tags(&self, place: usize) -> Option<TagTables<'_>>
+        ensures { result ≡ tags_at self.now.nodes.items place }
+    {
+        match self.choices.get(place) {
+            Some(Some(tags)) => Some(tags.tables()),
+            _ => None,
+        }
     }
 }
 
@@ -55,7 +78,7 @@ fn check_all(alloc: Global, nodes: &[TypeNode]) -> Result<(), TableError>
     Ok(())
 }
 
-/// Checks the type at a place.
+/// Checks the type at an index.
 fn check_place(alloc: Global, nodes: &[TypeNode], place: usize) -> Result<(), TableError>
     ensures sound { OnOk result (is_sound (type_at nodes.now 2 place) ≡ true) }
     ensures typed { OnOk result ((n : ℕ) → has_defaults (type_at nodes.now n place) ≡ true) }
@@ -81,7 +104,7 @@ fn check_whole(alloc: Global, nodes: &[TypeNode], node: &TypeNode) -> Result<(),
     Ok(())
 }
 
-/// The refusal of the type at a place.
+/// The refusal of the type at an index.
 fn refused_at(place: usize, refusal: Refusal) -> TableError
     ensures { result ≡ error_of place refusal }
 {

@@ -1,7 +1,7 @@
 mod Nodes
 mod ListTurns
+mod ChoiceTurns
 mod SequenceTurns
-mod ScalarRecords
+mod NotingTurns
 mod Looping
-mod Replays
 pub mod Told

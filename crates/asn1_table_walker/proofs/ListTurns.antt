@@ -20,10 +20,12 @@ use Rattle.asn1_table_types.specs.Meaning.{type_of, type_at}
 use Rattle.asn1_table_types.specs.Tables.{AreLawful}
 use Rattle.asn1_table_types.specs.declared.nodes.TypeNode.{TypeNode}
 use Rattle.asn1_table_types.specs.declared.nodes.TypeNode.TheVariants.{SequenceOf, SetOf}
-use Rattle.asn1_table_walker.specs.declared.tape.Event.{Event}
-use Rattle.asn1_table_walker.specs.declared.tape.Event.TheVariants.{ListBegins, Further, Ends as Ended}
-use Rattle.asn1_table_walker.specs.Frames.{record_of, records_of, list_record, members_in, pending_members}
-use Rattle.asn1_table_walker.proofs.Nodes.{kept_one, records_set, records_counted}
+use Rattle.asn1_table_tape.specs.declared.tape.Event.{Event}
+use Rattle.asn1_table_tape.specs.declared.tape.Event.TheVariants.{ListBegins, Further, Ends as Ended}
+use Rattle.asn1_table_tape.specs.Records.{record_of, records_of, list_record}
+use Rattle.asn1_table_tape.specs.Terms.{members_in}
+use Rattle.asn1_table_walker.specs.Frames.{pending_members}
+use Rattle.asn1_table_tape.proofs.Nodes.{kept_one, records_set, records_counted}
 
 within_held : (k : ℕ) → k < 2 ^ 64 → is_count_within (members_of Unbounded) k ≡ true
 within_held k h = and_from _ _ (le-leb 0 k (omega arith)) (le-leb k (2 ^ 64 - 1) (omega (arith, h)))
@@ -102,18 +104,19 @@ module _ {S : Type 0} {step : S → Record → S → Type 0} {few : S → S → 
         subst (λ (o : Option TypeNode). Begun step few within (type_of ns m o) (pending_members ns n (λ k. list_record o k) (members_in o) begins 0) a b (records_of ns old) (records_of ns new))
         (sym e) v
 
-    -- ---- a turn of a list, whose members have the type at i
+    -- ---- a turn of a list, whose elements have the type at i
     module _ (ns : List TypeNode) (n : ℕ) (f : ℕ → Record) (begins count : ℕ) (i : ℕ) {o : Option ℕ} (e : o ≡ Some i) where
-      pub further_refused : {a failed : S} {x : DecodeError} → NoRecord step few asks_further a failed x → Stuck step few within (pending_members ns n f o begins count) a failed x
-      further_refused {a} {failed} {x} u = subst (λ (o : Option ℕ). Stuck step few within (pending_members ns n f o begins count) a failed x) (sym e) (further_stuck one carries u)
+      pub further_refused : {a failed : S} {x : DecodeError} (K : List Record) → NoRecord step few asks_further a failed x → Stuck step few within (pending_members ns n f o begins count) K a failed x
+      further_refused {a} {failed} {x} K u = subst (λ (o : Option ℕ). Stuck step few within (pending_members ns n f o begins count) K a failed x) (sym e) (further_stuck one carries u)
 
-      pub member_refused : {a b : S} (failed : S) (x : DecodeError) → count ≡ 2 ^ 64 - 1 → step a (further true) b → Stuck step few within (pending_members ns n f o begins count) a failed x
-      member_refused {a} {b} failed x k m = subst (λ (o : Option ℕ). Stuck step few within (pending_members ns n f o begins count) a failed x) (sym e)
+      pub member_refused : {a b : S} (failed : S) (x : DecodeError) (K : List Record) → count ≡ 2 ^ 64 - 1 → step a (further true) b → Stuck step few within
+          (pending_members ns n f o begins count) K a failed x
+      member_refused {a} {b} failed x K k m = subst (λ (o : Option ℕ). Stuck step few within (pending_members ns n f o begins count) K a failed x) (sym e)
           (full_stuck one carries failed x (not_held count k) m)
 
       pub close_refused : {a b failed : S} {x : DecodeError} → step a (further false) b → NoRecord step few asks_end b failed x →
-          Stuck step few within (pending_members ns n f o begins count) a failed x
-      close_refused {a} {b} {failed} {x} m u = subst (λ (o : Option ℕ). Stuck step few within (pending_members ns n f o begins count) a failed x) (sym e) (close_stuck one carries m u)
+          (K : List Record) → Stuck step few within (pending_members ns n f o begins count) K a failed x
+      close_refused {a} {b} {failed} {x} m u K = subst (λ (o : Option ℕ). Stuck step few within (pending_members ns n f o begins count) K a failed x) (sym e) (close_stuck one carries m u)
 
       pub member_comes : {a b : S} (old new : List Event) → AreLawful ns → step a (further true) b → new ≡ old ++ Further true ∷ [] →
           Awaits step few within (pending_members ns n f o begins count) (pending_members ns n f o begins (count + 1)) (type_at ns n i) a b (records_of ns old) (records_of ns new)

@@ -49,6 +49,13 @@ pub walk_ends : {S : Type 0} (step : S → Record → S → Type 0) (few within 
     fs ≡ [] → Goes step few within s start k (pendings ns n (reverse fs)) b K → Told step s start b k K
 walk_ends step few within ns s n start b k K fs e g = finished step few within s start b k K (subst (λ fs. Goes step few within s start k (pendings ns n (reverse fs)) b K) e g)
 
+-- a turn is refused
+pub walk_refused : {S : Type 0} (step : S → Record → S → Type 0) (few within : S → S → S → Type 0) (ns : List TypeNode) (s : Schema) (n : ℕ) (start now failed : S) (k kept : List Record)
+    (x : DecodeError) (f : Frame) (fs gs : List Frame) → gs ≡ fs ++ f ∷ [] → Goes step few within s start k (pendings ns n (reverse gs)) now kept →
+    StuckFrom step few within (pendings ns n (f ∷ reverse fs)) now failed kept x → NoValue step few s start failed x
+walk_refused step few within ns s n start now failed k kept x f fs gs e g u =
+    u.none s start k (subst (λ hs. Goes step few within s start k (pendings ns n hs) now kept) (reversed fs gs f e) g)
+
 module _ {S : Type 0} {step : S → Record → S → Type 0} {few within : S → S → S → Type 0} (ns : List TypeNode) (n : ℕ) (f : Frame) (fs : List Frame) where
   pub ended_on : (m : ℕ) {a b : S} {K K1 : List Record} → m ≡ n + 1 → Ends step (pending_of ns n f) a b K K1 → GoesOn step few within (pendings ns n (f ∷ fs)) (pendings ns m fs) a b K K1
   ended_on m {a} {b} {K} {K1} l h = subst (λ k. GoesOn step few within (pendings ns n (f ∷ fs)) (pendings ns k fs) a b K K1) (sym l) (goes_left h)
@@ -65,7 +72,7 @@ module _ {S : Type 0} {step : S → Record → S → Type 0} {few within : S →
       let i' = subst (λ (m : ℕ). Opens step few within (type_at ns m place) (pending_in ns k o) b c K1 K2) l i in
       subst (λ ps. GoesOn step few within (pendings ns n (f ∷ fs)) ps a c K K2) e (goes_value (pending_in ns k o) h i')
 
-  pub frame_refused : {a failed : S} {x : DecodeError} {K : List Record} → Stuck step few within (pending_of ns n f) a failed x → StuckFrom step few within (pendings ns n (f ∷ fs)) a failed K x
+  pub frame_refused : {a failed : S} {x : DecodeError} {K : List Record} → Stuck step few within (pending_of ns n f) K a failed x → StuckFrom step few within (pendings ns n (f ∷ fs)) a failed K x
   frame_refused u = stuck_turn u
 
   pub value_refused : (m place : ℕ) {q : Pending} {a b failed : S} {x : DecodeError} {K K1 : List Record} → m ≡ n → Awaits step few within (pending_of ns n f) q (type_at ns n place) a b K K1 →

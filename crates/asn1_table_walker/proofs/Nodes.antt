@@ -1,26 +1,21 @@
--- The nodes of a table, their components, and the records that are kept of them.
-use Rattle.std.proofs.Common.{◌≡◌, ◌∙◌, refl, ap, ℕ, zero, suc, ◌+◌, ◌<◌, true, false, cond, sym, List, [], ◌∷◌, ◌++◌, map, length, drop, get_or, slice_get, Option, Some, None, Result, Ok, Err, arith}
+-- The components of the types of a lawful table.
+use Rattle.std.proofs.Common.{◌≡◌, ◌∙◌, refl, ap, sym, subst, ℕ, zero, suc, ◌<◌, Bool, true, false, cond, List, [], ◌∷◌, ◌++◌, map, length, get_or, slice_get, Option, Some, None, Result, Ok, Err}
+use Rattle.std.proofs.Common.{arith}
 use Rattle.std.proofs.lemmas.Bool.{and_parts}
-use Rattle.std.specs.Prelude.{slice_set as set, ◌&&◌}
+use Rattle.std.specs.Prelude.{◌&&◌, ◌||◌, not}
 use Rattle.std.specs.Result.{IfErr, IfOk}
-use Rattle.std.proofs.lemmas.List.{drop_more}
-use Rattle.asn1_model.specs.Schema.{Schema}
-use Rattle.asn1_model.specs.Lawful.{is_group}
+use Rattle.asn1_model.specs.Schema.{Schema, Presence, Components, no_component}
+use Rattle.asn1_model.specs.Lawful.{is_lawful, are_lawful, is_group, is_optional, are_groups_in_place, has_typed_default, are_no_components, are_distinct, tag_same, component_tags}
+use Rattle.asn1_model.specs.Lawful.{is_sequence_table, are_tags_of, are_ascending, tag_less, component_places}
 use Rattle.asn1_model.specs.Normal.{is_required}
 use Rattle.asn1_schema_laws.specs.Presents.{optional_count, component_count}
-use Rattle.asn1_table_laws.proofs.Roots.{has_default}
-use Rattle.asn1_table_types.specs.Meaning.{type_of, components_of, presence_of}
+use Rattle.asn1_schema_tags.specs.Tags.{tag_of}
+use Rattle.asn1_table_types.specs.Meaning.{type_of, type_at, components_of, presence_of}
+use Rattle.asn1_table_types.specs.Tables.{AreLawful}
 use Rattle.asn1_table_types.specs.declared.nodes.Component.{Component}
-use Rattle.asn1_table_types.specs.declared.nodes.Presence.{Presence}
-use Rattle.asn1_table_types.specs.declared.nodes.ComponentTable.{ComponentTable}
-use Rattle.asn1_table_types.specs.declared.nodes.Presence.TheVariants.{Required, Optional, Default}
 use Rattle.asn1_table_types.specs.declared.nodes.TypeNode.{TypeNode}
 use Rattle.asn1_table_types.specs.declared.nodes.TypeNode.TheVariants as node
-use Rattle.asn1_table_walker.specs.declared.tape.Event.{Event}
-use Rattle.asn1_table_walker.specs.Frames.{record_of, records_of, optional_in, table_in}
-use Rattle.asn1_table_walker.specs.Served.{has_no_default, have_no_default, is_served, are_served}
-
--- ---- components
+use Rattle.asn1_table_tape.specs.Terms.{Lists, optional_in, lists_in}
 
 pub optional_counted : (f : ℕ → Schema) (cs : List Component) → optional_count (components_of f cs) ≡ optional_in cs
 optional_counted f [] = refl
@@ -30,110 +25,95 @@ pub components_counted : (f : ℕ → Schema) (cs : List Component) → componen
 components_counted f [] = refl
 components_counted f (c ∷ cs) = ap suc (components_counted f cs)
 
-some_same : {Y : Type 0} {x y : Y} → Some x ≡ Some y → x ≡ y
-some_same e = cc
+-- ---- what is lawful
 
--- what is served
-pub served_at : (ns : List TypeNode) (i : ℕ) (y : TypeNode) → are_served ns ≡ true → slice_get ns i ≡ Some y → is_served y ≡ true
-served_at [] i y l e = absurd (let z : None ≡ Some y = e in cc)
-served_at (x ∷ ns) zero y l e = let q : Some x ≡ Some y = e in ap is_served (sym (some_same q)) ∙ (and_parts (is_served x) (are_served ns) l).0
-served_at (x ∷ ns) (suc i) y l e = served_at ns i y (and_parts (is_served x) (are_served ns) l).1 e
+-- components, of which groups are in place
+record Fine (added : Bool) (cs : Components) : Type 0 where
+  pub lawful : are_lawful cs ≡ true
+  pub placed : are_groups_in_place added cs ≡ true
 
-plain_at : (cs : List Component) (i : ℕ) (x : Component) → have_no_default cs ≡ true → i < length cs → x ≡ get_or cs i x → has_no_default x.presence ≡ true
-plain_at [] i x l h e = absurd (omega (arith, h))
-plain_at (c ∷ cs) zero x l h e = ap (λ (y : Component). has_no_default y.presence) e ∙ (and_parts (has_no_default c.presence) (have_no_default cs) l).0
-plain_at (c ∷ cs) (suc i) x l h e = plain_at cs i x (and_parts (has_no_default c.presence) (have_no_default cs) l).1 (let g : suc i < suc (length cs) = h in omega (arith, g)) e
+record BothFine (f : ℕ → Schema) (t : Lists) : Type 0 where
+  pub root : Fine false (components_of f t.root)
+  pub additions : Fine true (components_of f t.additions)
 
-no_default : (p : Presence) → has_no_default p ≡ true → has_default (presence_of p) ≡ false
-no_default Required e = refl
-no_default Optional e = refl
-no_default (Default t) e = absurd (let z : false ≡ true = e in cc)
+fine_table : (cs : Components) (e : Bool) (adds : Components) → (is_sequence_table cs e adds && are_lawful cs) ≡ true → are_lawful adds ≡ true → Fine false cs × Fine true adds
+fine_table cs e adds h k =
+    let b = and_parts (is_sequence_table cs e adds) (are_lawful cs) h in
+    let c = and_parts ((e || are_no_components adds) && are_distinct tag_same (component_tags cs ++ component_tags adds) && are_groups_in_place false cs) (are_groups_in_place true adds) b.0 in
+    let d = and_parts ((e || are_no_components adds) && are_distinct tag_same (component_tags cs ++ component_tags adds)) (are_groups_in_place false cs) c.0 in
+    (record { lawful = b.1; placed = d.1 }, record { lawful = k; placed = c.1 })
 
--- no component of a SEQUENCE or SET that is served has a default
-served_table : (o : Option TypeNode) (t : ComponentTable) → ((y : TypeNode) → o ≡ Some y → is_served y ≡ true) → table_in o ≡ Some t →
-    (have_no_default t.root.items && have_no_default t.additions.items) ≡ true
-served_table (Some (node.Sequence u)) t h e = let q : Some u ≡ Some t = e in ap (λ (v : ComponentTable). have_no_default v.root.items && have_no_default v.additions.items) (sym (some_same q))
-    ∙ h (node.Sequence u) refl
-served_table (Some (node.Set u)) t h e = let q : Some u ≡ Some t = e in ap (λ (v : ComponentTable). have_no_default v.root.items && have_no_default v.additions.items) (sym (some_same q))
-    ∙ h (node.Set u) refl
-served_table None t h e = absurd (let q : None ≡ Some t = e in cc)
-served_table (Some node.Boolean) t h e = absurd (let q : None ≡ Some t = e in cc)
-served_table (Some node.Null) t h e = absurd (let q : None ≡ Some t = e in cc)
-served_table (Some (node.Integer l)) t h e = absurd (let q : None ≡ Some t = e in cc)
-served_table (Some (node.Enumerated u)) t h e = absurd (let q : None ≡ Some t = e in cc)
-served_table (Some (node.BitString z)) t h e = absurd (let q : None ≡ Some t = e in cc)
-served_table (Some (node.OctetString z)) t h e = absurd (let q : None ≡ Some t = e in cc)
-served_table (Some (node.CharacterString u)) t h e = absurd (let q : None ≡ Some t = e in cc)
-served_table (Some node.ObjectIdentifier) t h e = absurd (let q : None ≡ Some t = e in cc)
-served_table (Some (node.SequenceOf z i)) t h e = absurd (let q : None ≡ Some t = e in cc)
-served_table (Some (node.SetOf z i)) t h e = absurd (let q : None ≡ Some t = e in cc)
-served_table (Some (node.Group cs)) t h e = absurd (let q : None ≡ Some t = e in cc)
-served_table (Some (node.Choice u)) t h e = absurd (let q : None ≡ Some t = e in cc)
+some_lists : {a b : Lists} → Some a ≡ Some b → a ≡ b
+some_lists e = cc
 
-table_plain : (ns : List TypeNode) (place : ℕ) (t : ComponentTable) → are_served ns ≡ true → table_in (slice_get ns place) ≡ Some t →
-    (have_no_default t.root.items && have_no_default t.additions.items) ≡ true
-table_plain ns place t l e = served_table (slice_get ns place) t (λ y q. served_at ns place y l q) e
+lawful_lists : (ns : List TypeNode) (n : ℕ) (y : TypeNode) (t : Lists) → is_lawful (type_of ns (suc n) (Some y)) ≡ true → lists_in (Some y) ≡ Some t → BothFine (λ i. type_at ns n i) t
+unfolding is_lawful are_lawful
+lawful_lists ns n y t = elim y as (λ y. is_lawful (type_of ns (suc n) (Some y)) ≡ true → lists_in (Some y) ≡ Some t → BothFine (λ i. type_at ns n i) t) [
+  | node.Sequence u ↦ λ l e.
+      let f : ℕ → Schema = λ i. type_at ns n i in
+      let cs = components_of f u.root.items in
+      let adds = components_of f u.additions.items in
+      let a = and_parts (is_sequence_table cs u.is_extensible adds && are_lawful cs) (are_lawful adds) l in
+      let b = fine_table cs u.is_extensible adds a.0 a.1 in
+      subst (λ (t : Lists). BothFine f t) (some_lists e) (record { root = b.0; additions = b.1 })
+  | node.Set u ↦ λ l e.
+      let f : ℕ → Schema = λ i. type_at ns n i in
+      let cs = components_of f u.root.items in
+      let adds = components_of f u.additions.items in
+      let a = and_parts (is_sequence_table cs u.is_extensible adds && are_ascending tag_less (component_places cs) && are_lawful cs) (are_lawful adds) l in
+      let k = and_parts (is_sequence_table cs u.is_extensible adds && are_ascending tag_less (component_places cs)) (are_lawful cs) a.0 in
+      let h = and_parts (is_sequence_table cs u.is_extensible adds) (are_ascending tag_less (component_places cs)) k.0 in
+      let q : (is_sequence_table cs u.is_extensible adds && are_lawful cs) ≡ true = rw (h.0, k.1) refl in
+      let b = fine_table cs u.is_extensible adds q a.1 in
+      subst (λ (t : Lists). BothFine f t) (some_lists e) (record { root = b.0; additions = b.1 })
+  | node.Group u ↦ λ l e.
+      let f : ℕ → Schema = λ i. type_at ns n i in
+      let cs = components_of f u.items in
+      let a = and_parts (not (are_no_components cs) && are_distinct tag_same (component_tags cs) && are_groups_in_place false cs) (are_lawful cs) l in
+      let b = and_parts (not (are_no_components cs) && are_distinct tag_same (component_tags cs)) (are_groups_in_place false cs) a.0 in
+      subst (λ (t : Lists). BothFine f t) (some_lists e) (record { root = record { lawful = a.1; placed = b.1 }; additions = record { lawful = refl; placed = refl } })
+  | _ ↦ λ l e. absurd (let z : None ≡ Some t = e in cc)
+]
 
-pub root_plain : (ns : List TypeNode) (place : ℕ) (t : ComponentTable) (i : ℕ) (x : Component) → are_served ns ≡ true → table_in (slice_get ns place) ≡ Some t → i < length t.root.items →
-    x ≡ get_or t.root.items i x → has_default (presence_of x.presence) ≡ false
-root_plain ns place t i x l e h q = no_default x.presence (plain_at t.root.items i x (and_parts (have_no_default t.root.items) (have_no_default t.additions.items)
-    (table_plain ns place t l e)).0 h q)
-
-pub added_plain : (ns : List TypeNode) (place : ℕ) (t : ComponentTable) (i : ℕ) (x : Component) → are_served ns ≡ true → table_in (slice_get ns place) ≡ Some t → i < length t.additions.items →
-    x ≡ get_or t.additions.items i x → has_default (presence_of x.presence) ≡ false
-added_plain ns place t i x l e h q = no_default x.presence (plain_at t.additions.items i x
-    (and_parts (have_no_default t.root.items) (have_no_default t.additions.items) (table_plain ns place t l e)).1 h q)
-
-no_group_of : (ns : List TypeNode) (n : ℕ) (y : TypeNode) → is_served y ≡ true → is_group (type_of ns n (Some y)) ≡ false
-no_group_of ns n node.Boolean e = refl
-no_group_of ns n node.Null e = refl
-no_group_of ns n (node.Integer l) e = refl
-no_group_of ns n (node.Enumerated t) e = refl
-no_group_of ns n (node.BitString z) e = refl
-no_group_of ns n (node.OctetString z) e = refl
-no_group_of ns n (node.CharacterString t) e = refl
-no_group_of ns n node.ObjectIdentifier e = refl
-no_group_of ns zero (node.SequenceOf z i) e = refl
-no_group_of ns zero (node.SetOf z i) e = refl
-no_group_of ns zero (node.Sequence t) e = refl
-no_group_of ns zero (node.Set t) e = refl
-no_group_of ns zero (node.Group cs) e = refl
-no_group_of ns zero (node.Choice t) e = refl
-no_group_of ns (suc n) (node.SequenceOf z i) e = refl
-no_group_of ns (suc n) (node.SetOf z i) e = refl
-no_group_of ns (suc n) (node.Sequence t) e = refl
-no_group_of ns (suc n) (node.Set t) e = refl
-no_group_of ns (suc n) (node.Group cs) e = absurd (let z : false ≡ true = e in cc)
-no_group_of ns (suc n) (node.Choice t) e = refl
-
-pub no_group : (ns : List TypeNode) (n i : ℕ) → are_served ns ≡ true → is_group (type_of ns n (slice_get ns i)) ≡ false
-no_group ns n i l = from (slice_get ns i) (λ y e. served_at ns i y l e)
+fine_lists : (ns : List TypeNode) (n place : ℕ) (t : Lists) → AreLawful ns → lists_in (slice_get ns place) ≡ Some t → BothFine (λ i. type_at ns n i) t
+fine_lists ns n place t l = by_node (slice_get ns place) refl
   where
-    from : (o : Option TypeNode) → ((y : TypeNode) → o ≡ Some y → is_served y ≡ true) → is_group (type_of ns n o) ≡ false
-    from None h = refl
-    from (Some y) h = no_group_of ns n y (h y refl)
+    by_node : (o : Option TypeNode) → slice_get ns place ≡ o → lists_in o ≡ Some t → BothFine (λ i. type_at ns n i) t
+    by_node None q e = absurd (let z : None ≡ Some t = e in cc)
+    by_node (Some y) q e = lawful_lists ns n y t (ap (λ o. is_lawful (type_of ns (suc n) o)) (sym q) ∙ l (suc n) place) e
 
-pub optional_next : (cs : List Component) (i : ℕ) (d : Component) → i < length cs → optional_in (drop i cs) ≡ cond (is_required (presence_of (get_or cs i d).presence))
-    (optional_in (drop (i + 1) cs)) (suc (optional_in (drop (i + 1) cs)))
-optional_next cs i d h = ap optional_in (drop_more cs i d h)
+-- one of them
+pub record FineAt (added : Bool) (o : Presence) (s : Schema) : Type 0 where
+  pub typed : has_typed_default s o ≡ true
+  pub lawful : is_lawful s ≡ true
+  pub placed : cond added (not (is_group s) || is_optional o) (not (is_group s)) ≡ true
 
--- ---- records
+fine_at : (added : Bool) (f : ℕ → Schema) (cs : List Component) (i : ℕ) (x : Component) → Fine added (components_of f cs) → i < length cs → x ≡ get_or cs i x →
+    FineAt added (presence_of x.presence) (f x.place)
+unfolding are_lawful
+fine_at added f [] i x h l e = absurd (omega (arith, l))
+fine_at added f (c ∷ cs) zero x h l e =
+    let o = presence_of c.presence in
+    let s = f c.place in
+    let a = and_parts (are_tags_of (map tag_of c.tags.items) s && has_typed_default s o && is_lawful s) (are_lawful (components_of f cs)) h.lawful in
+    let b = and_parts (are_tags_of (map tag_of c.tags.items) s && has_typed_default s o) (is_lawful s) a.0 in
+    let d = and_parts (are_tags_of (map tag_of c.tags.items) s) (has_typed_default s o) b.0 in
+    let g = and_parts (cond added (not (is_group s) || is_optional o) (not (is_group s))) (are_groups_in_place added (components_of f cs)) h.placed in
+    subst (λ (y : Component). FineAt added (presence_of y.presence) (f y.place)) (sym e) (record { typed = d.1; lawful = b.1; placed = g.0 })
+fine_at added f (c ∷ cs) (suc i) x h l e =
+    let o = presence_of c.presence in
+    let s = f c.place in
+    let a = and_parts (are_tags_of (map tag_of c.tags.items) s && has_typed_default s o && is_lawful s) (are_lawful (components_of f cs)) h.lawful in
+    let g = and_parts (cond added (not (is_group s) || is_optional o) (not (is_group s))) (are_groups_in_place added (components_of f cs)) h.placed in
+    fine_at added f cs i x (record { lawful = a.1; placed = g.1 }) (let k : suc i < suc (length cs) = l in omega (arith, k)) e
 
-map_one : {A B : Type 0} (f : A → B) (xs : List A) (x : A) → map f (xs ++ x ∷ []) ≡ map f xs ++ f x ∷ []
-map_one f [] x = refl
-map_one f (y ∷ ys) x = ap (λ zs. f y ∷ zs) (map_one f ys x)
+pub root_fine : (ns : List TypeNode) (n place : ℕ) (t : Lists) (i : ℕ) (x : Component) → AreLawful ns → lists_in (slice_get ns place) ≡ Some t → i < length t.root → x ≡ get_or t.root i x →
+    FineAt false (presence_of x.presence) (type_at ns n x.place)
+root_fine ns n place t i x l e h q = fine_at false (λ i. type_at ns n i) t.root i x (fine_lists ns n place t l e).root h q
 
-pub kept_one : (ns : List TypeNode) (old new : List Event) (e : Event) → new ≡ old ++ e ∷ [] → records_of ns new ≡ records_of ns old ++ record_of ns e ∷ []
-kept_one ns old new e h = ap (λ es. records_of ns es) h ∙ map_one (λ e. record_of ns e) old e
-
-pub records_set : (ns : List TypeNode) (es : List Event) (i : ℕ) (e : Event) → records_of ns (set es i e) ≡ set (records_of ns es) i (record_of ns e)
-records_set ns [] i e = refl
-records_set ns (x ∷ es) zero e = refl
-records_set ns (x ∷ es) (suc i) e = ap (λ zs. record_of ns x ∷ zs) (records_set ns es i e)
-
-pub records_counted : (ns : List TypeNode) (es : List Event) → length (records_of ns es) ≡ length es
-records_counted ns [] = refl
-records_counted ns (x ∷ es) = ap suc (records_counted ns es)
+pub added_fine : (ns : List TypeNode) (n place : ℕ) (t : Lists) (i : ℕ) (x : Component) → AreLawful ns → lists_in (slice_get ns place) ≡ Some t → i < length t.additions →
+    x ≡ get_or t.additions i x → FineAt true (presence_of x.presence) (type_at ns n x.place)
+added_fine ns n place t i x l e h q = fine_at true (λ i. type_at ns n i) t.additions i x (fine_lists ns n place t l e).additions h q
 
 -- ---- results
 

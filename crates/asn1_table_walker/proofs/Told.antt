@@ -16,7 +16,7 @@ use Rattle.asn1_schema_laws.specs.Presents.{presents, Fits}
 use Rattle.asn1_schema_laws.specs.Records.{Record}
 use Rattle.asn1_schema_laws.specs.Tables.{IsValue}
 use Rattle.asn1_table_laws.proofs.Normal.{normal_twice, normal_fits}
-use Rattle.asn1_table_walker.specs.Replays.{CannotChain}
+use Rattle.asn1_table_tape.specs.Replays.{CannotChain}
 
 -- the normal form of a value is one
 pub value_of : (s : Schema) (raw v : Value) → is_lawful s ≡ true → Fits s raw → normal s raw ≡ v → IsValue (λ _. s) v

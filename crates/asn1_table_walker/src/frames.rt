@@ -1,48 +1,65 @@
-//! What is still to come of the lists, sequences and sets that have begun.
+//! What is still to come of the lists, sequences, sets, groups and choices that have begun.
 
-/// What is still to come of a SEQUENCE OF, SET OF, SEQUENCE or SET that has begun. Types are named by their places in
-/// the table.
+/// What is still to come of a value that has begun. Types are named by their indices in the table.
 #[derive(Clone, Copy, Debug)]
 pub enum Frame {
-    /// Members of a list, and its end.
+    /// Elements of a list, and its end.
     Members {
-        /// The place of the list's type.
+        /// The index of the list's type.
         list: usize,
         /// Where its beginning is kept.
         begins: usize,
         /// How many elements were read.
         count: usize,
     },
-    /// Root components of a sequence, then its additions, and its end.
+    /// Root components of a sequence, set or group, then its additions, and its end.
     Root {
-        /// The place of the sequence's type.
+        /// The index of its type.
         sequence: usize,
         /// The index of the next component.
         next: usize,
     },
+    /// What is noted of a root component with a default, whose value was read; then as `Root`.
+    Noting {
+        /// The index of the sequence's type.
+        sequence: usize,
+        /// The index of the component.
+        component: usize,
+        /// Where its presence bit is kept.
+        from: usize,
+    },
     /// Additions of a sequence, and its end.
     Added {
-        /// The place of the sequence's type.
+        /// The index of the sequence's type.
         sequence: usize,
         /// The index of the next addition.
         next: usize,
     },
-    /// The end of an addition whose value was read, then the further ones.
+    /// The end of an addition whose value was read, and what is noted of it; then as `Added`.
     Inside {
-        /// The place of the sequence's type.
+        /// The index of the sequence's type.
         sequence: usize,
-        /// The index of the next addition.
-        next: usize,
+        /// The index of the addition.
+        component: usize,
+        /// Where it is kept that the addition is there.
+        from: usize,
     },
+    /// The value of the chosen alternative of a choice, and its end.
+    Alternative {
+        /// The index of the value's type.
+        value: usize,
+    },
+    /// The end of a choice whose value was read.
+    Closing,
 }
 
 /// What a turn leaves.
 #[derive(Clone, Copy, Debug)]
 pub enum Turn {
-    /// The list or sequence has ended.
+    /// The value has ended.
     Ended,
     /// The rest of it is still to come.
     Again(Frame),
-    /// A value of the type at a place comes first, and then the rest.
+    /// A value of the type at an index comes first, and then the rest.
     Value(Frame, usize),
 }

@@ -7,18 +7,18 @@ ghost use Rattle.asn1_table_laws.specs.Walks.{NoValue, Begun, Stuck, Turns};
 ghost use Rattle.asn1_table_types.specs.Meaning.{type_at};
 ghost use Rattle.asn1_table_types.specs.declared.nodes.TypeNode.{TypeNode as Node};
 ghost use Rattle.asn1_table_types.specs.declared.nodes.TypeNode.TheVariants.{SequenceOf as ListOf, SetOf as BagOf};
-ghost use Rattle.asn1_table_walker.specs.Frames.{records_of, pending_of, turn_of, levels_closed, keeps};
+ghost use Rattle.asn1_table_tape.specs.Records.{records_of};
+ghost use Rattle.asn1_table_walker.specs.Frames.{pending_of, turn_of, levels_closed};
 
 use crate::frames::{Frame, Turn};
-use crate::served::ServedTypes;
-use crate::tape::{Event, keep, set_count};
-use crate::terms::{members_at, size_constraints};
 use asn1_schema_constraints::{Bounded, Sizes};
 use asn1_schema_decode::Decoder;
 use asn1_schema_errors::DecodeError;
 use asn1_schema_tags::Tag;
+use asn1_table_tape::{Event, elements_at, keep, set_count, size_constraints};
+use asn1_table_types::Types;
 
-/// A SEQUENCE OF of these sizes begins, of the type at this index.
+/// Begins a SEQUENCE OF of these sizes; `place` is the index of its type.
 pub fn begin_list<D: Decoder>(
     decoder: &mut D,
     sizes: Sizes,
@@ -33,7 +33,6 @@ pub fn begin_list<D: Decoder>(
         → NoValue D.step D.too_few (type_at ns (D.levels decoder.old) place) decoder.old decoder.new x) }
     ensures going { OnOk result (D.has_failed decoder.new → ⊥) }
     ensures call { DecoderCall D.has_failed (OneLevelLess D.levels) decoder.old decoder.new result }
-    ensures grows { OnOk result (vec_len tape.old + 1 ≤ vec_len tape.new) }
 {
     let constraints = size_constraints(sizes);
     decoder.begin_list(Tag::SEQUENCE, &constraints, Bounded::None)?;
@@ -46,7 +45,7 @@ pub fn begin_list<D: Decoder>(
     })
 }
 
-/// A SET OF of these sizes begins, of the type at this index.
+/// Begins a SET OF of these sizes; `place` is the index of its type.
 pub fn begin_bag<D: Decoder>(
     decoder: &mut D,
     sizes: Sizes,
@@ -61,7 +60,6 @@ pub fn begin_bag<D: Decoder>(
         → NoValue D.step D.too_few (type_at ns (D.levels decoder.old) place) decoder.old decoder.new x) }
     ensures going { OnOk result (D.has_failed decoder.new → ⊥) }
     ensures call { DecoderCall D.has_failed (OneLevelLess D.levels) decoder.old decoder.new result }
-    ensures grows { OnOk result (vec_len tape.old + 1 ≤ vec_len tape.new) }
 {
     let constraints = size_constraints(sizes);
     decoder.begin_bag(Tag::SET, &constraints, Bounded::None)?;
@@ -74,31 +72,31 @@ pub fn begin_bag<D: Decoder>(
     })
 }
 
-/// Another element of a list follows, or its end.
+/// Reads whether another element follows. If none does, reads the end and sets the count.
 pub fn turn_members<D: Decoder>(
     decoder: &mut D,
-    types: &ServedTypes,
+    types: &Types,
     list: usize,
     begins: usize,
     count: usize,
     tape: &mut Vec<Event>,
 ) -> Result<Turn, DecodeError>
     ensures ok { IfOk result (λ t. Turns D.step D.too_few D.too_few_members
-        (pending_of types.now.types.nodes.items (D.levels decoder.old)
+        (pending_of types.now.nodes.items (D.levels decoder.old)
         (Frame.Members list begins count))
-        (turn_of types.now.types.nodes.items (D.levels decoder.old) t) decoder.old decoder.new
-        (records_of types.now.types.nodes.items tape.old.items)
-        (records_of types.now.types.nodes.items tape.new.items)) }
+        (turn_of types.now.nodes.items (D.levels decoder.old) t) decoder.old decoder.new
+        (records_of types.now.nodes.items tape.old.items)
+        (records_of types.now.nodes.items tape.new.items)) }
     ensures level { IfOk result (λ t. D.levels decoder.new ≡ D.levels decoder.old + levels_closed t) }
     ensures only { IfErr result (Stuck D.step D.too_few D.too_few_members
-        (pending_of types.now.types.nodes.items (D.levels decoder.old)
-        (Frame.Members list begins count)) decoder.old decoder.new) }
+        (pending_of types.now.nodes.items (D.levels decoder.old)
+        (Frame.Members list begins count)) (records_of types.now.nodes.items tape.old.items)
+        decoder.old decoder.new) }
     ensures going { OnOk result (D.has_failed decoder.new → D.has_failed decoder.old) }
     ensures failed { OnErr result (D.has_failed decoder.new) }
     ensures after { result ≡ Err DecodeError.AlreadyFailed → D.has_failed decoder.old }
-    ensures grows { IfOk result (λ t. vec_len tape.old + keeps t ≤ vec_len tape.new) }
 {
-    let Some(members) = members_at(types, list) else {
+    let Some(members) = elements_at(types, list) else {
         return Err(decoder.refuse(DecodeError::TypeNotExtensible));
     };
     if decoder.get_further()? {

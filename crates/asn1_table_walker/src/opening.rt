@@ -5,42 +5,41 @@ ghost use Rattle.std.specs.Prelude.{◌≡◌, ◌+◌, ◌≤◌, IfOk, IfErr, 
 ghost use Rattle.asn1_schema_errors.specs.Calls.{DecoderCall};
 ghost use Rattle.asn1_table_laws.specs.Walks.{NoValue, Opens};
 ghost use Rattle.asn1_table_types.specs.Meaning.{type_at};
-ghost use Rattle.asn1_table_walker.specs.Frames.{records_of, pending_in, levels_in};
+ghost use Rattle.asn1_table_tape.specs.Records.{records_of};
+ghost use Rattle.asn1_table_walker.specs.Frames.{pending_in, levels_in};
 
+use crate::choices::begin_choice;
 use crate::frames::Frame;
 use crate::members::{begin_bag, begin_list};
-use crate::scalars::{
-    read_arcs, read_bits, read_flag, read_item, read_nil, read_number, read_octets,
-};
-use crate::sequences::{begin_sequence, begin_set};
-use crate::served::ServedTypes;
-use crate::strings::read_text;
-use crate::tape::Event;
+use crate::sequences::{begin_group, begin_sequence, begin_set};
 use asn1_schema_decode::Decoder;
 use asn1_schema_errors::DecodeError;
 use asn1_schema_tags::Tag;
-use asn1_table_types::TypeNode;
+use asn1_table_tape::{
+    Event, read_arcs, read_bits, read_flag, read_item, read_nil, read_number, read_octets,
+    read_text,
+};
+use asn1_table_types::{TypeNode, Types};
 use std::alloc::Global;
 
-/// Reads a value of the type at a place, if it is one record, or begins it.
+/// Reads a value of the type at an index, if it is one record, or begins it.
 pub fn open<D: Decoder>(
     alloc: Global,
     decoder: &mut D,
-    types: &ServedTypes,
+    types: &Types,
     place: usize,
     tape: &mut Vec<Event>,
 ) -> Result<Option<Frame>, DecodeError>
     ensures ok { IfOk result (λ o. Opens D.step D.too_few D.too_few_members
-        (type_at types.now.types.nodes.items (D.levels decoder.old) place)
-        (pending_in types.now.types.nodes.items (D.levels decoder.new) o) decoder.old decoder.new
-        (records_of types.now.types.nodes.items tape.old.items)
-        (records_of types.now.types.nodes.items tape.new.items)) }
+        (type_at types.now.nodes.items (D.levels decoder.old) place)
+        (pending_in types.now.nodes.items (D.levels decoder.new) o) decoder.old decoder.new
+        (records_of types.now.nodes.items tape.old.items)
+        (records_of types.now.nodes.items tape.new.items)) }
     ensures level { IfOk result (λ o. D.levels decoder.old ≡ D.levels decoder.new + levels_in o) }
     ensures only { IfErr result (NoValue D.step D.too_few
-        (type_at types.now.types.nodes.items (D.levels decoder.old) place) decoder.old decoder.new) }
+        (type_at types.now.nodes.items (D.levels decoder.old) place) decoder.old decoder.new) }
     ensures going { OnOk result (D.has_failed decoder.new → ⊥) }
     ensures call { DecoderCall D.has_failed (λ _ _. ⊤) decoder.old decoder.new result }
-    ensures grows { OnOk result (vec_len tape.old + 1 ≤ vec_len tape.new) }
 {
     match types.node(place) {
         None => Err(refuse_any(decoder)),
@@ -92,13 +91,20 @@ pub fn open<D: Decoder>(
             let frame = begin_set(decoder, table, place, tape)?;
             Ok(Some(frame))
         }
-        Some(TypeNode::Group(_)) => Err(refuse_any(decoder)),
-        Some(TypeNode::Choice(_)) => Err(refuse_any(decoder)),
+        Some(TypeNode::Group(components)) => {
+            let frame = begin_group(decoder, components.as_slice(), place, tape)?;
+            Ok(Some(frame))
+        }
+        Some(TypeNode::Choice(table)) => {
+            let frame = begin_choice(decoder, types, table, place, tape)?;
+            Ok(Some(frame))
+        }
     }
 }
 
-// The decoder fails, as no value has a type outside of the table.
-fn refuse_any<D: Decoder>(decoder: &mut D) -> DecodeError
+/// The decoder fails, since no value has a type outside the table. Reading a NULL, which takes no octets, shows whether
+// it had failed before. No clause says which error this is.
+pub fn refuse_any<D: Decoder>(decoder: &mut D) -> DecodeError
     ensures failed { D.has_failed decoder.new }
     ensures already { D.has_failed decoder.old → result ≡ DecodeError.AlreadyFailed }
     ensures after { result ≡ DecodeError.AlreadyFailed → D.has_failed decoder.old }

@@ -6,68 +6,78 @@ ghost use Rattle.asn1_schema_decode.specs.Reads.{Unread};
 ghost use Rattle.asn1_schema_errors.specs.Calls.{DecoderCall, SameLevel};
 ghost use Rattle.asn1_table_laws.specs.Walks.{ReadsOnto, Stuck, Turns, GoesOn, StuckFrom};
 ghost use Rattle.asn1_table_types.specs.Meaning.{type_at};
-ghost use Rattle.asn1_table_walker.specs.Frames.{records_of, pending_of, pendings, turn_of, levels_closed, keeps};
+ghost use Rattle.asn1_table_tape.specs.Records.{records_of};
+ghost use Rattle.asn1_table_walker.specs.Frames.{pending_of, pendings, turn_of, levels_closed};
 ghost use Rattle.asn1_table_walker.specs.Frames.{with_frame, levels_in};
 
+use crate::choices::turn_closing;
 use crate::frames::{Frame, Turn};
 use crate::members::turn_members;
+use crate::noting::{turn_inside, turn_noting};
 use crate::opening::open;
-use crate::sequences::{turn_added, turn_inside, turn_root};
-use crate::served::ServedTypes;
-use crate::tape::Event;
+use crate::sequences::{turn_added, turn_root};
 use asn1_schema_decode::Decoder;
 use asn1_schema_errors::DecodeError;
+use asn1_table_tape::Event;
+use asn1_table_types::Types;
 use std::alloc::Global;
 
 /// Reads the value of the type at this index of a table whose records are next, and puts the records of its normal
 /// form on the tape. An index outside the table is that of a type without values. After an error the decoder has
-/// failed, and what follows on the tape is unspecified.
+/// failed, and no clause says what is on the tape.
+///
+/// # Errors
+///
+/// Those of the decoder; `OutOfMemory` also after 2^64 - 1 turns.
 pub fn read_onto<D: Decoder>(
     alloc: Global,
     decoder: &mut D,
-    types: &ServedTypes,
+    types: &Types,
     place: usize,
     tape: &mut Vec<Event>,
 ) -> Result<(), DecodeError>
-    ensures ok { OnOk result (ReadsOnto D.step (λ n. type_at types.now.types.nodes.items n place) (D.levels decoder.old)
-        decoder.old decoder.new (records_of types.now.types.nodes.items tape.old.items)
-        (records_of types.now.types.nodes.items tape.new.items)) }
-    ensures only { IfErr result (Unread D.step D.too_few (λ n. type_at types.now.types.nodes.items n place)
+    ensures ok { OnOk result (ReadsOnto D.step (λ n. type_at types.now.nodes.items n place) (D.levels decoder.old)
+        decoder.old decoder.new (records_of types.now.nodes.items tape.old.items)
+        (records_of types.now.nodes.items tape.new.items)) }
+    ensures only { IfErr result (Unread D.step D.too_few (λ n. type_at types.now.nodes.items n place)
         (D.levels decoder.old) decoder.old decoder.new) }
     ensures call { DecoderCall D.has_failed (SameLevel D.levels) decoder.old decoder.new result }
 {
     let mut frames = Vec::new(alloc);
     let first = open(alloc, decoder, types, place, tape)?;
     push_opened(decoder, &mut frames, first)?;
-    while let Some(frame) = frames.pop() {
+    // No machine lasts for 2^64 turns, but a loop needs a bound.
+    for _turn in 0..usize::MAX {
+        let Some(frame) = frames.pop() else {
+            return Ok(());
+        };
         turn(alloc, decoder, types, frame, &mut frames, tape)?;
     }
-    Ok(())
+    Err(decoder.refuse(DecodeError::OutOfMemory))
 }
 
 // One turn of the innermost frame: the next call that it asks for, and the beginning of a value that comes.
 fn turn<D: Decoder>(
     alloc: Global,
     decoder: &mut D,
-    types: &ServedTypes,
+    types: &Types,
     frame: Frame,
     frames: &mut Vec<Frame>,
     tape: &mut Vec<Event>,
 ) -> Result<(), DecodeError>
     ensures ok { OnOk result (GoesOn D.step D.too_few D.too_few_members
-        (pendings types.now.types.nodes.items (D.levels decoder.old) (frame ∷ reverse frames.old.items))
-        (pendings types.now.types.nodes.items (D.levels decoder.new) (reverse frames.new.items))
-        decoder.old decoder.new (records_of types.now.types.nodes.items tape.old.items)
-        (records_of types.now.types.nodes.items tape.new.items)) }
+        (pendings types.now.nodes.items (D.levels decoder.old) (frame ∷ reverse frames.old.items))
+        (pendings types.now.nodes.items (D.levels decoder.new) (reverse frames.new.items))
+        decoder.old decoder.new (records_of types.now.nodes.items tape.old.items)
+        (records_of types.now.nodes.items tape.new.items)) }
     ensures level { OnOk result (D.levels decoder.new + vec_len frames.new
         ≡ D.levels decoder.old + (vec_len frames.old + 1)) }
     ensures only { IfErr result (StuckFrom D.step D.too_few D.too_few_members
-        (pendings types.now.types.nodes.items (D.levels decoder.old) (frame ∷ reverse frames.old.items))
-        decoder.old decoder.new (records_of types.now.types.nodes.items tape.old.items)) }
+        (pendings types.now.nodes.items (D.levels decoder.old) (frame ∷ reverse frames.old.items))
+        decoder.old decoder.new (records_of types.now.nodes.items tape.old.items)) }
     ensures going { OnOk result (D.has_failed decoder.new → D.has_failed decoder.old) }
     ensures failed { OnErr result (D.has_failed decoder.new) }
     ensures after { result ≡ Err DecodeError.AlreadyFailed → D.has_failed decoder.old }
-    ensures grows { OnOk result (vec_len tape.old + 1 ≤ vec_len tape.new) }
 {
     match go_on(decoder, types, frame, tape)? {
         Turn::Ended => Ok(()),
@@ -87,22 +97,22 @@ fn turn<D: Decoder>(
 // The next call that a frame asks for.
 fn go_on<D: Decoder>(
     decoder: &mut D,
-    types: &ServedTypes,
+    types: &Types,
     frame: Frame,
     tape: &mut Vec<Event>,
 ) -> Result<Turn, DecodeError>
     ensures ok { IfOk result (λ t. Turns D.step D.too_few D.too_few_members
-        (pending_of types.now.types.nodes.items (D.levels decoder.old) frame)
-        (turn_of types.now.types.nodes.items (D.levels decoder.old) t) decoder.old decoder.new
-        (records_of types.now.types.nodes.items tape.old.items)
-        (records_of types.now.types.nodes.items tape.new.items)) }
+        (pending_of types.now.nodes.items (D.levels decoder.old) frame)
+        (turn_of types.now.nodes.items (D.levels decoder.old) t) decoder.old decoder.new
+        (records_of types.now.nodes.items tape.old.items)
+        (records_of types.now.nodes.items tape.new.items)) }
     ensures level { IfOk result (λ t. D.levels decoder.new ≡ D.levels decoder.old + levels_closed t) }
     ensures only { IfErr result (Stuck D.step D.too_few D.too_few_members
-        (pending_of types.now.types.nodes.items (D.levels decoder.old) frame) decoder.old decoder.new) }
+        (pending_of types.now.nodes.items (D.levels decoder.old) frame)
+        (records_of types.now.nodes.items tape.old.items) decoder.old decoder.new) }
     ensures going { OnOk result (D.has_failed decoder.new → D.has_failed decoder.old) }
     ensures failed { OnErr result (D.has_failed decoder.new) }
     ensures after { result ≡ Err DecodeError.AlreadyFailed → D.has_failed decoder.old }
-    ensures grows { IfOk result (λ t. vec_len tape.old + keeps t ≤ vec_len tape.new) }
 {
     match frame {
         Frame::Members {
@@ -111,12 +121,23 @@ fn go_on<D: Decoder>(
             count,
         } => turn_members(decoder, types, list, begins, count, tape),
         Frame::Root { sequence, next } => turn_root(decoder, types, sequence, next, tape),
+        Frame::Noting {
+            sequence,
+            component,
+            from,
+        } => turn_noting(decoder, types, sequence, component, from, tape),
         Frame::Added { sequence, next } => turn_added(decoder, types, sequence, next, tape),
-        Frame::Inside { sequence, next } => turn_inside(decoder, sequence, next, tape),
+        Frame::Inside {
+            sequence,
+            component,
+            from,
+        } => turn_inside(decoder, types, sequence, component, from, tape),
+        Frame::Alternative { value } => Ok(Turn::Value(Frame::Closing, value)),
+        Frame::Closing => turn_closing(decoder, tape),
     }
 }
 
-// One frame more. Where there is no memory for it the decoder fails.
+// Pushes a frame. If memory runs out, the decoder fails.
 fn push<D: Decoder>(
     decoder: &mut D,
     frames: &mut Vec<Frame>,
@@ -134,7 +155,7 @@ fn push<D: Decoder>(
     Ok(())
 }
 
-// The same of a value that has begun.
+// Pushes the frame of a value that has begun, if there is one.
 fn push_opened<D: Decoder>(
     decoder: &mut D,
     frames: &mut Vec<Frame>,

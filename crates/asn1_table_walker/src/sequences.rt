@@ -1,29 +1,32 @@
-//! SEQUENCE and SET (X.680 25 and 27): its beginning, and its components one after another.
+//! SEQUENCE, SET and groups of additions (X.680 25 and 27): their beginning, and their components one after another.
 #![tactic(auto, using(asn1_table_types::proofs::Lists::empty_length, std::proofs::lemmas::Grind::common_steps))]
 
-ghost use Rattle.std.specs.Prelude.{◌≡◌, ◌+◌, ◌≤◌, List, Some, Err, IfOk, IfErr, OnOk, OnErr, vec_len, slice_get};
+ghost use Rattle.std.specs.Prelude.{◌≡◌, ◌+◌, List, Some, Err, IfOk, IfErr, OnOk, OnErr, Vec, slice_get};
+ghost use Rattle.std.specs.Global.{Global};
 ghost use Rattle.std.specs.Prelude.{◌||◌, not};
 ghost use Rattle.asn1_model.specs.Lawful.{is_empty};
 ghost use Rattle.asn1_model.specs.Schema.{no_component};
 ghost use Rattle.asn1_schema_errors.specs.Calls.{DecoderCall, OneLevelLess};
 ghost use Rattle.asn1_table_laws.specs.Walks as walk;
 ghost use Rattle.asn1_table_laws.specs.Walks.{NoValue, Begun, Stuck, Turns, EndsAdded, StuckRoot, StuckAdded};
-ghost use Rattle.asn1_table_types.specs.Meaning.{type_at, components_of};
+ghost use Rattle.asn1_table_tape.specs.Records.{records_of};
+ghost use Rattle.asn1_table_tape.specs.Terms.{lists_in};
+ghost use Rattle.asn1_table_laws.proofs.Roots.{has_default as is_by_default};
+ghost use Rattle.asn1_table_types.specs.Meaning.{type_at, components_of, presence_of};
+ghost use Rattle.asn1_table_types.specs.declared.nodes.Component.{Component as Part};
 ghost use Rattle.asn1_table_types.specs.declared.nodes.TypeNode.{TypeNode as Node};
 ghost use Rattle.asn1_table_types.specs.declared.nodes.TypeNode.TheVariants.{Sequence as SequenceWith, Set as SetWith};
-ghost use Rattle.asn1_table_walker.specs.Frames.{records_of, pending_of, table_in, turn_of, levels_closed};
-ghost use Rattle.asn1_table_walker.specs.Frames.{keeps};
+ghost use Rattle.asn1_table_types.specs.declared.nodes.TypeNode.TheVariants.{Group as GroupWith};
+ghost use Rattle.asn1_table_walker.specs.Frames.{pending_of, turn_of, levels_closed};
 
 use crate::frames::{Frame, Turn};
-use crate::served::ServedTypes;
-use crate::tape::{Event, keep};
-use crate::terms::{count_optional, is_always_there, table_at};
 use asn1_schema_decode::Decoder;
 use asn1_schema_errors::DecodeError;
 use asn1_schema_tags::Tag;
-use asn1_table_types::ComponentTable;
+use asn1_table_tape::{ComponentLists, Event, count_optional, is_always_there, keep, lists_at};
+use asn1_table_types::{Component, ComponentTable, Presence, Types};
 
-/// A SEQUENCE of these components begins, of the type at this index.
+/// Begins a SEQUENCE of these components; `place` is the index of its type.
 pub fn begin_sequence<D: Decoder>(
     decoder: &mut D,
     table: &ComponentTable,
@@ -38,7 +41,6 @@ pub fn begin_sequence<D: Decoder>(
         → NoValue D.step D.too_few (type_at ns (D.levels decoder.old) place) decoder.old decoder.new x) }
     ensures going { OnOk result (D.has_failed decoder.new → ⊥) }
     ensures call { DecoderCall D.has_failed (OneLevelLess D.levels) decoder.old decoder.new result }
-    ensures grows { OnOk result (vec_len tape.old + 1 ≤ vec_len tape.new) }
 {
     let optional = count_optional(table.root.as_slice());
     decoder.begin_sequence(Tag::SEQUENCE, table.is_extensible, optional)?;
@@ -53,7 +55,7 @@ pub fn begin_sequence<D: Decoder>(
     })
 }
 
-/// A SET of these components begins, of the type at this index.
+/// Begins a SET of these components; `place` is the index of its type.
 pub fn begin_set<D: Decoder>(
     decoder: &mut D,
     table: &ComponentTable,
@@ -68,7 +70,6 @@ pub fn begin_set<D: Decoder>(
         → NoValue D.step D.too_few (type_at ns (D.levels decoder.old) place) decoder.old decoder.new x) }
     ensures going { OnOk result (D.has_failed decoder.new → ⊥) }
     ensures call { DecoderCall D.has_failed (OneLevelLess D.levels) decoder.old decoder.new result }
-    ensures grows { OnOk result (vec_len tape.old + 1 ≤ vec_len tape.new) }
 {
     let optional = count_optional(table.root.as_slice());
     decoder.begin_set(Tag::SET, table.is_extensible, optional)?;
@@ -83,33 +84,59 @@ pub fn begin_set<D: Decoder>(
     })
 }
 
-/// The next root component of a sequence comes, or what follows the root components.
+/// Begins a group of additions with these components; `place` is the index of its type.
+pub fn begin_group<D: Decoder>(
+    decoder: &mut D,
+    components: &[Component],
+    place: usize,
+    tape: &mut Vec<Event>,
+) -> Result<Frame, DecodeError>
+    ensures ok { IfOk result (λ f. (ns : List Node) (cs : Vec Part Global) → cs.items ≡ components.now
+        → slice_get ns place ≡ Some (GroupWith cs)
+        → Begun D.step D.too_few D.too_few_members (type_at ns (D.levels decoder.old) place)
+        (pending_of ns (D.levels decoder.new) f) decoder.old decoder.new
+        (records_of ns tape.old.items) (records_of ns tape.new.items)) }
+    ensures only { IfErr result (λ x. (ns : List Node) (cs : Vec Part Global) → cs.items ≡ components.now
+        → slice_get ns place ≡ Some (GroupWith cs)
+        → NoValue D.step D.too_few (type_at ns (D.levels decoder.old) place) decoder.old decoder.new x) }
+    ensures going { OnOk result (D.has_failed decoder.new → ⊥) }
+    ensures call { DecoderCall D.has_failed (OneLevelLess D.levels) decoder.old decoder.new result }
+{
+    let optional = count_optional(components);
+    decoder.begin_group(optional)?;
+    keep(decoder, tape, Event::GroupBegins(optional))?;
+    Ok(Frame::Root {
+        sequence: place,
+        next: 0,
+    })
+}
+
+/// Comes to the value of the next root component, leaves out an absent one, or goes on after the last.
 pub fn turn_root<D: Decoder>(
     decoder: &mut D,
-    types: &ServedTypes,
+    types: &Types,
     sequence: usize,
     next: usize,
     tape: &mut Vec<Event>,
 ) -> Result<Turn, DecodeError>
     ensures ok { IfOk result (λ t. Turns D.step D.too_few D.too_few_members
-        (pending_of types.now.types.nodes.items (D.levels decoder.old) (Frame.Root sequence next))
-        (turn_of types.now.types.nodes.items (D.levels decoder.old) t) decoder.old decoder.new
-        (records_of types.now.types.nodes.items tape.old.items)
-        (records_of types.now.types.nodes.items tape.new.items)) }
+        (pending_of types.now.nodes.items (D.levels decoder.old) (Frame.Root sequence next))
+        (turn_of types.now.nodes.items (D.levels decoder.old) t) decoder.old decoder.new
+        (records_of types.now.nodes.items tape.old.items)
+        (records_of types.now.nodes.items tape.new.items)) }
     ensures level { IfOk result (λ t. D.levels decoder.new ≡ D.levels decoder.old + levels_closed t) }
     ensures only { IfErr result (Stuck D.step D.too_few D.too_few_members
-        (pending_of types.now.types.nodes.items (D.levels decoder.old) (Frame.Root sequence next))
-        decoder.old decoder.new) }
+        (pending_of types.now.nodes.items (D.levels decoder.old) (Frame.Root sequence next))
+        (records_of types.now.nodes.items tape.old.items) decoder.old decoder.new) }
     ensures going { OnOk result (D.has_failed decoder.new → D.has_failed decoder.old) }
     ensures failed { OnErr result (D.has_failed decoder.new) }
     ensures after { result ≡ Err DecodeError.AlreadyFailed → D.has_failed decoder.old }
-    ensures grows { IfOk result (λ t. vec_len tape.old + keeps t ≤ vec_len tape.new) }
 {
-    let Some(table) = table_at(types, sequence) else {
+    let Some(lists) = lists_at(types, sequence) else {
         return Err(decoder.refuse(DecodeError::TypeNotExtensible));
     };
-    let Some(component) = table.root.as_slice().get(next) else {
-        return behind_root(decoder, table, sequence, tape);
+    let Some(component) = lists.root().get(next) else {
+        return behind_root(decoder, &lists, sequence, tape);
     };
     let rest = Frame::Root {
         sequence,
@@ -118,50 +145,65 @@ pub fn turn_root<D: Decoder>(
     if is_always_there(component) {
         return Ok(Turn::Value(rest, component.place));
     }
+    let from = tape.len();
     let is_present = decoder.get_presence_bit()?;
     keep(decoder, tape, Event::PresenceBit(is_present))?;
-    if is_present {
-        return Ok(Turn::Value(rest, component.place));
+    if !is_present {
+        return Ok(Turn::Again(rest));
     }
-    Ok(Turn::Again(rest))
+    if has_default(component) {
+        let noting = Frame::Noting {
+            sequence,
+            component: next,
+            from,
+        };
+        return Ok(Turn::Value(noting, component.place));
+    }
+    Ok(Turn::Value(rest, component.place))
+}
+
+// Whether a component has a default (X.680 25).
+fn has_default(component: &Component) -> bool
+    ensures { result ≡ is_by_default (presence_of component.now.presence) }
+{
+    matches!(component.presence, Presence::Default(_))
 }
 
 // The additions of a sequence begin, if there are any or there is an extension marker; or the sequence ends.
 fn behind_root<D: Decoder>(
     decoder: &mut D,
-    table: &ComponentTable,
+    lists: &ComponentLists<'_>,
     sequence: usize,
     tape: &mut Vec<Event>,
 ) -> Result<Turn, DecodeError>
-    ensures ok { IfOk result (λ t. (ns : List Node) → table_in (slice_get ns sequence) ≡ Some table.now
-        → Turns D.step D.too_few D.too_few_members (walk.root no_component table.now.is_extensible
-        (components_of (λ i. type_at ns (D.levels decoder.old) i) table.now.additions.items))
+    ensures ok { IfOk result (λ t. (ns : List Node) → lists_in (slice_get ns sequence) ≡ Some lists.now
+        → Turns D.step D.too_few D.too_few_members (walk.root no_component lists.now.extensible
+        (components_of (λ i. type_at ns (D.levels decoder.old) i) lists.now.additions))
         (turn_of ns (D.levels decoder.old) t) decoder.old decoder.new
         (records_of ns tape.old.items) (records_of ns tape.new.items)) }
     ensures level { IfOk result (λ t. D.levels decoder.new ≡ D.levels decoder.old + levels_closed t) }
     ensures only { IfErr result (λ x. (ns : List Node) → StuckRoot D.step D.too_few no_component
-        table.now.is_extensible (components_of (λ i. type_at ns (D.levels decoder.old) i) table.now.additions.items)
+        lists.now.extensible (components_of (λ i. type_at ns (D.levels decoder.old) i) lists.now.additions)
         decoder.old decoder.new x) }
     ensures going { OnOk result (D.has_failed decoder.new → D.has_failed decoder.old) }
     ensures failed { OnErr result (D.has_failed decoder.new) }
     ensures after { result ≡ Err DecodeError.AlreadyFailed → D.has_failed decoder.old }
-    ensures grows { IfOk result (λ t. vec_len tape.old + keeps t ≤ vec_len tape.new) }
 {
-    if !has_additions(table) {
+    if !has_additions(lists) {
         end_sequence(decoder, tape)?;
         return Ok(Turn::Ended);
     }
-    let count = table.additions.len();
+    let count = lists.additions().len();
     decoder.begin_additions(count)?;
     keep(decoder, tape, Event::AdditionsBegin(count))?;
     Ok(Turn::Again(Frame::Added { sequence, next: 0 }))
 }
 
 // Whether there is an extension marker, or an addition.
-fn has_additions(table: &ComponentTable) -> bool
-    ensures { result ≡ (table.now.is_extensible || not (is_empty table.now.additions.items)) }
+fn has_additions(lists: &ComponentLists<'_>) -> bool
+    ensures { result ≡ (lists.now.extensible || not (is_empty lists.now.additions)) }
 {
-    table.is_extensible || !table.additions.as_slice().is_empty()
+    lists.is_extensible() || !lists.additions().is_empty()
 }
 
 // The end of a sequence.
@@ -173,74 +215,56 @@ fn end_sequence<D: Decoder>(decoder: &mut D, tape: &mut Vec<Event>) -> Result<()
     ensures going { OnOk result (D.has_failed decoder.new → D.has_failed decoder.old) }
     ensures failed { OnErr result (D.has_failed decoder.new) }
     ensures after { result ≡ Err DecodeError.AlreadyFailed → D.has_failed decoder.old }
-    ensures grows { OnOk result (vec_len tape.old + 1 ≤ vec_len tape.new) }
 {
     decoder.end()?;
     keep(decoder, tape, Event::Ends)?;
     Ok(())
 }
 
-/// The next addition of a sequence comes, or its end.
+/// Reads whether the next addition is present, or the end after the last.
 pub fn turn_added<D: Decoder>(
     decoder: &mut D,
-    types: &ServedTypes,
+    types: &Types,
     sequence: usize,
     next: usize,
     tape: &mut Vec<Event>,
 ) -> Result<Turn, DecodeError>
     ensures ok { IfOk result (λ t. Turns D.step D.too_few D.too_few_members
-        (pending_of types.now.types.nodes.items (D.levels decoder.old) (Frame.Added sequence next))
-        (turn_of types.now.types.nodes.items (D.levels decoder.old) t) decoder.old decoder.new
-        (records_of types.now.types.nodes.items tape.old.items)
-        (records_of types.now.types.nodes.items tape.new.items)) }
+        (pending_of types.now.nodes.items (D.levels decoder.old) (Frame.Added sequence next))
+        (turn_of types.now.nodes.items (D.levels decoder.old) t) decoder.old decoder.new
+        (records_of types.now.nodes.items tape.old.items)
+        (records_of types.now.nodes.items tape.new.items)) }
     ensures level { IfOk result (λ t. D.levels decoder.new ≡ D.levels decoder.old + levels_closed t) }
     ensures only { IfErr result (Stuck D.step D.too_few D.too_few_members
-        (pending_of types.now.types.nodes.items (D.levels decoder.old) (Frame.Added sequence next))
-        decoder.old decoder.new) }
+        (pending_of types.now.nodes.items (D.levels decoder.old) (Frame.Added sequence next))
+        (records_of types.now.nodes.items tape.old.items) decoder.old decoder.new) }
     ensures going { OnOk result (D.has_failed decoder.new → D.has_failed decoder.old) }
     ensures failed { OnErr result (D.has_failed decoder.new) }
     ensures after { result ≡ Err DecodeError.AlreadyFailed → D.has_failed decoder.old }
-    ensures grows { IfOk result (λ t. vec_len tape.old + keeps t ≤ vec_len tape.new) }
 {
-    let Some(table) = table_at(types, sequence) else {
+    let Some(lists) = lists_at(types, sequence) else {
         return Err(decoder.refuse(DecodeError::TypeNotExtensible));
     };
-    let Some(component) = table.additions.as_slice().get(next) else {
+    let Some(component) = lists.additions().get(next) else {
         end_sequence(decoder, tape)?;
         return Ok(Turn::Ended);
     };
-    let next = next + 1;
+    let from = tape.len();
     if decoder.get_addition()? {
         keep(decoder, tape, Event::Addition(true))?;
-        return Ok(Turn::Value(Frame::Inside { sequence, next }, component.place));
+        let inside = Frame::Inside {
+            sequence,
+            component: next,
+            from,
+        };
+        return Ok(Turn::Value(inside, component.place));
     }
     if is_always_there(component) {
         return Err(decoder.refuse(DecodeError::RequiredExtensionNotPresent));
     }
     keep(decoder, tape, Event::Addition(false))?;
-    Ok(Turn::Again(Frame::Added { sequence, next }))
-}
-
-/// The end of an addition comes.
-pub fn turn_inside<D: Decoder>(
-    decoder: &mut D,
-    sequence: usize,
-    next: usize,
-    tape: &mut Vec<Event>,
-) -> Result<Turn, DecodeError>
-    ensures ok { IfOk result (λ t. (ns : List Node) → Turns D.step D.too_few D.too_few_members
-        (pending_of ns (D.levels decoder.old) (Frame.Inside sequence next))
-        (turn_of ns (D.levels decoder.old) t) decoder.old decoder.new
-        (records_of ns tape.old.items) (records_of ns tape.new.items)) }
-    ensures level { IfOk result (λ t. D.levels decoder.new ≡ D.levels decoder.old + levels_closed t) }
-    ensures only { IfErr result (λ x. (ns : List Node) → Stuck D.step D.too_few D.too_few_members
-        (pending_of ns (D.levels decoder.old) (Frame.Inside sequence next)) decoder.old decoder.new x) }
-    ensures going { OnOk result (D.has_failed decoder.new → D.has_failed decoder.old) }
-    ensures failed { OnErr result (D.has_failed decoder.new) }
-    ensures after { result ≡ Err DecodeError.AlreadyFailed → D.has_failed decoder.old }
-    ensures grows { IfOk result (λ t. vec_len tape.old + keeps t ≤ vec_len tape.new) }
-{
-    decoder.end_addition()?;
-    keep(decoder, tape, Event::AdditionEnds)?;
-    Ok(Turn::Again(Frame::Added { sequence, next }))
+    Ok(Turn::Again(Frame::Added {
+        sequence,
+        next: next + 1,
+    }))
 }

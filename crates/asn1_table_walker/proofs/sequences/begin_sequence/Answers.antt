@@ -1,6 +1,6 @@
 use Rattle.std.proofs.Common.{◌∙◌, ap}
 use Rattle.asn1_schema_laws.proofs.Joined.{raised}
-use Rattle.asn1_table_walker.specs.Frames.{optional_in}
+use Rattle.asn1_table_tape.specs.Terms.{optional_in}
 use Rattle.asn1_table_walker.proofs.SequenceTurns.{sequence_refused, sequence_opened}
 use Rattle.asn1_table_walker.proofs.sequences.begin_sequence.Goals as goal
 
@@ -10,5 +10,5 @@ returns-in_err-begin_sequence-clause-only g c = raised _ _ _ c.from_residual.ens
 
 pub returns-clause-ok : goal.returns-clause-ok
 returns-clause-ok g c = λ ns e. rw c.in_ok-keep.ensures.same
-    (sequence_opened g.met.D.Decoder.one_record g.met.D.Decoder.records_carried g.met.D.Decoder.values_carried g.D.Decoder.too_few_members ns c.args.place c.args.table.now _ _ _ _ _
+    (sequence_opened ns c.args.place g.met.D.Decoder.one_record g.met.D.Decoder.records_carried g.D.Decoder.too_few_members c.args.table.now _ _ _ _ _
     (c.count_optional-optional.ensures ∙ ap optional_in c.as_slice.ensures.value) e c.in_ok-begin_sequence.ensures.call.level c.in_ok-begin_sequence.ensures.ok c.in_ok-keep.ensures.kept)

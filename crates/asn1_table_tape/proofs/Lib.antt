@@ -1,0 +1,4 @@
+pub mod Nodes
+pub mod ScalarRecords
+mod Replays
+mod Leaving

@@ -1,0 +1,5 @@
+pub mod Strings
+pub mod Terms
+pub mod Records
+pub mod Values
+pub mod Replays

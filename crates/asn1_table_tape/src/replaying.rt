@@ -1,0 +1,234 @@
+//! The records of a tape are given to an encoder.
+#![tactic(auto, using(std::proofs::lemmas::Grind::common_steps))]
+
+ghost use Rattle.std.specs.Prelude.{◌≡◌, Err, IfErr, OnOk, OnErr, slice_get};
+ghost use Rattle.asn1_schema_encode.specs.Writes.{Refused};
+ghost use Rattle.asn1_schema_errors.specs.Calls.{EncoderCall};
+ghost use Rattle.asn1_schema_laws.specs.Chains.{Chain};
+ghost use Rattle.asn1_schema_laws.specs.Records.{identifier};
+ghost use Rattle.asn1_table_tape.specs.Records.{record_of, records_of, number_record, item_record};
+ghost use Rattle.asn1_table_tape.specs.Records.{bits_record, octets_record, list_record, choice_record};
+ghost use Rattle.asn1_table_tape.specs.Replays.{CannotChain};
+ghost use Rattle.asn1_table_types.specs.Choices.{tags_at};
+
+use crate::strings::replay_text;
+use crate::tape::Event;
+use crate::terms::{
+    any_sizes, bit_sizes_at, items_at, limits_at, number_constraints, octet_sizes_at,
+    size_constraints,
+};
+use asn1_schema_constraints::Bounded;
+use asn1_schema_encode::Encoder;
+use asn1_schema_errors::EncodeError;
+use asn1_schema_tags::{Chosen, Identifier, Tag};
+use asn1_table_types::{TypeNode, Types};
+use asn1_values_bit_strings::BitString;
+use asn1_values_identifiers::ObjectIdentifier;
+use asn1_values_integers::Integer;
+
+/// Gives the records of a tape to an encoder, each once.
+pub fn replay<E: Encoder>(encoder: &mut E, types: &Types, tape: &[Event]) -> Result<(), EncodeError>
+    ensures ok { OnOk result
+        (Chain E.step (records_of types.now.nodes.items tape.now) encoder.old encoder.new) }
+    ensures only { IfErr result
+        (CannotChain E.step (records_of types.now.nodes.items tape.now) encoder.old) }
+    ensures failed { OnErr result (E.has_failed encoder.new) }
+    ensures front { E.front encoder.new ≡ E.front encoder.old }
+    ensures after { result ≡ Err EncodeError.AlreadyFailed → E.has_failed encoder.old }
+{
+    for event in tape {
+        replay_one(encoder, types, event)?;
+    }
+    Ok(())
+}
+
+// One record.
+fn replay_one<E: Encoder>(encoder: &mut E, types: &Types, event: &Event) -> Result<(), EncodeError>
+    ensures ok { OnOk result
+        (E.step encoder.old (record_of types.now.nodes.items event.now) encoder.new) }
+    ensures only { IfErr result
+        (Refused E.step (record_of types.now.nodes.items event.now) encoder.old) }
+    ensures call { EncoderCall E.has_failed E.front encoder.old encoder.new result }
+{
+    match event {
+        Event::Flag(value) => encoder.encode_bool(Tag::BOOL, *value, Identifier::BOOL),
+        Event::Nil => encoder.encode_null(Tag::NULL, Identifier::NULL),
+        Event::Item(place, item) => replay_item(encoder, types, *place, *item),
+        Event::Bits(place, bits) => replay_bits(encoder, types, *place, bits),
+        Event::Octets(place, octets) => replay_octets(encoder, types, *place, octets.as_slice()),
+        Event::Text(place, text) => replay_text(encoder, types, *place, text),
+        Event::Arcs(arcs) => replay_arcs(encoder, arcs),
+        Event::Number(place, value) => replay_number(encoder, types, *place, value),
+        Event::ListBegins(place, count) => replay_list(encoder, types, *place, *count),
+        Event::Further(more) => encoder.encode_further(*more),
+        Event::SequenceBegins(is_extensible, optional) => encoder.begin_sequence(
+            Tag::SEQUENCE,
+            *is_extensible,
+            *optional,
+        ),
+        Event::SetBegins(is_extensible, optional) => encoder.begin_set(
+            Tag::SET,
+            *is_extensible,
+            *optional,
+        ),
+        Event::GroupBegins(optional) => encoder.begin_group(*optional),
+        Event::ChoiceBegins(place, chosen) => replay_choice(encoder, types, *place, *chosen),
+        Event::PresenceBit(is_present) => encoder.encode_presence_bit(*is_present),
+        Event::AdditionsBegin(count) => encoder.begin_additions(*count),
+        Event::Addition(is_present) => encoder.encode_addition(*is_present),
+        Event::AdditionEnds => encoder.end_addition(),
+        Event::Ends => encoder.end(),
+    }
+}
+
+// A number of the type at this index.
+fn replay_number<E: Encoder>(
+    encoder: &mut E,
+    types: &Types,
+    place: usize,
+    value: &Integer,
+) -> Result<(), EncodeError>
+    ensures ok { OnOk result
+        (E.step encoder.old (number_record (slice_get types.now.nodes.items place) value.now) encoder.new) }
+    ensures only { IfErr result
+        (Refused E.step (number_record (slice_get types.now.nodes.items place) value.now) encoder.old) }
+    ensures call { EncoderCall E.has_failed E.front encoder.old encoder.new result }
+{
+    let limits = limits_at(types, place);
+    let constraints = number_constraints(&limits);
+    encoder.encode_integer(Tag::INTEGER, &constraints, value, Identifier::INTEGER)?;
+    Ok(())
+}
+
+// An item, whose type is at an index.
+fn replay_item<E: Encoder>(
+    encoder: &mut E,
+    types: &Types,
+    place: usize,
+    item: isize,
+) -> Result<(), EncodeError>
+    ensures ok { OnOk result
+        (E.step encoder.old (item_record (slice_get types.now.nodes.items place) item) encoder.new) }
+    ensures only { IfErr result
+        (Refused E.step (item_record (slice_get types.now.nodes.items place) item) encoder.old) }
+    ensures call { EncoderCall E.has_failed E.front encoder.old encoder.new result }
+{
+    let items = items_at(types, place);
+    encoder.encode_item_of(Tag::ENUMERATED, &items, &item, Identifier::ENUMERATED)
+}
+
+// Bits, whose type is at an index.
+fn replay_bits<E: Encoder>(
+    encoder: &mut E,
+    types: &Types,
+    place: usize,
+    bits: &BitString,
+) -> Result<(), EncodeError>
+    ensures ok { OnOk result
+        (E.step encoder.old (bits_record (slice_get types.now.nodes.items place) bits.now) encoder.new) }
+    ensures only { IfErr result
+        (Refused E.step (bits_record (slice_get types.now.nodes.items place) bits.now) encoder.old) }
+    ensures call { EncoderCall E.has_failed E.front encoder.old encoder.new result }
+{
+    let constraints = size_constraints(bit_sizes_at(types, place));
+    encoder.encode_bit_string(
+        Tag::BIT_STRING,
+        &constraints,
+        Bounded::None,
+        bits.as_bitslice(),
+        Identifier::BIT_STRING,
+    )
+}
+
+// Octets, whose type is at an index.
+fn replay_octets<E: Encoder>(
+    encoder: &mut E,
+    types: &Types,
+    place: usize,
+    octets: &[u8],
+) -> Result<(), EncodeError>
+    ensures ok { OnOk result
+        (E.step encoder.old (octets_record (slice_get types.now.nodes.items place) octets.now) encoder.new) }
+    ensures only { IfErr result
+        (Refused E.step (octets_record (slice_get types.now.nodes.items place) octets.now) encoder.old) }
+    ensures call { EncoderCall E.has_failed E.front encoder.old encoder.new result }
+{
+    let constraints = size_constraints(octet_sizes_at(types, place));
+    encoder.encode_octet_string(
+        Tag::OCTET_STRING,
+        &constraints,
+        Bounded::None,
+        octets,
+        Identifier::OCTET_STRING,
+    )
+}
+
+// The arcs of an object identifier.
+fn replay_arcs<E: Encoder>(encoder: &mut E, arcs: &ObjectIdentifier) -> Result<(), EncodeError>
+    ensures ok { OnOk result (E.step encoder.old (identifier arcs.now) encoder.new) }
+    ensures only { IfErr result (Refused E.step (identifier arcs.now) encoder.old) }
+    ensures call { EncoderCall E.has_failed E.front encoder.old encoder.new result }
+{
+    encoder.encode_object_identifier(
+        Tag::OBJECT_IDENTIFIER,
+        arcs.as_oid(),
+        Identifier::OBJECT_IDENTIFIER,
+    )
+}
+
+// The beginning of a list of the type at this index.
+fn replay_list<E: Encoder>(
+    encoder: &mut E,
+    types: &Types,
+    place: usize,
+    count: usize,
+) -> Result<(), EncodeError>
+    ensures ok { OnOk result
+        (E.step encoder.old (list_record (slice_get types.now.nodes.items place) count) encoder.new) }
+    ensures only { IfErr result
+        (Refused E.step (list_record (slice_get types.now.nodes.items place) count) encoder.old) }
+    ensures call { EncoderCall E.has_failed E.front encoder.old encoder.new result }
+{
+    match types.node(place) {
+        Some(TypeNode::SequenceOf(sizes, _members)) => {
+            let constraints = size_constraints(*sizes);
+            encoder.begin_list(Tag::SEQUENCE, &constraints, Bounded::None, count)?;
+            Ok(())
+        }
+        Some(TypeNode::SetOf(sizes, _members)) => {
+            let constraints = size_constraints(*sizes);
+            encoder.begin_bag(Tag::SET, &constraints, Bounded::None, count)?;
+            Ok(())
+        }
+        _ => {
+            let constraints = size_constraints(any_sizes());
+            encoder.begin_list(Tag::SEQUENCE, &constraints, Bounded::None, count)?;
+            Ok(())
+        }
+    }
+}
+
+// The beginning of a CHOICE of the type at this index.
+fn replay_choice<E: Encoder>(
+    encoder: &mut E,
+    types: &Types,
+    place: usize,
+    chosen: Chosen,
+) -> Result<(), EncodeError>
+    ensures ok { OnOk result
+        (E.step encoder.old (choice_record (tags_at types.now.nodes.items place) chosen) encoder.new) }
+    ensures only { IfErr result
+        (Refused E.step (choice_record (tags_at types.now.nodes.items place) chosen) encoder.old) }
+    ensures call { EncoderCall E.has_failed E.front encoder.old encoder.new result }
+{
+    match types.choice_tags(place) {
+        Some(tables) => encoder.begin_choice(
+            Tag::CHOICE,
+            tables.roots(),
+            tables.extensible(),
+            tables.additions(),
+            chosen,
+        ),
+        None => encoder.begin_choice(Tag::CHOICE, &[], false, &[], chosen),
+    }
+}
