@@ -12,7 +12,7 @@ use Rattle.asn1_schema_laws.specs.Forms.{Form}
 use Rattle.asn1_schema_laws.specs.Chains.{Chain, OneAfter}
 use Rattle.asn1_schema_laws.proofs.Chains.{chain_append, chain_split}
 use Rattle.asn1_schema_laws.proofs.Forms.{listed_type, listed, begins_list, no_list, elements_fit, list_records}
-use Rattle.asn1_schema_encode.specs.Writes.{Refused, Writes, CannotWrite, WritesMembers, CannotWriteMembers}
+use Rattle.asn1_schema_encode.specs.Writes.{Refused, Writes, CannotWrite, WritesMembers, CannotWriteMembers, EndsMembers, CannotEndMembers}
 use Rattle.asn1_schema_encode.proofs.Writing.{cannot_later}
 
 module _ {S : Type 0} {step : S → Record → S → Type 0} {s : ℕ → Schema} where
@@ -106,12 +106,9 @@ module _ {S A : Type 0} {step : S → Record → S → Type 0} {s : ℕ → Sche
       WritesFrom step s f xs i a b → step b (further true) c → CannotWrite step s (f x) c y → CannotWriteMembers step s (values_of f xs) a y
   from_stuck one {i} {a} {b} {c} {x} {y} lt at w m h = w.stuck y (subst (λ (ys : List A). CannotWriteMembers step s (values_of f ys) b y) (sym (rest_is xs i x lt at)) (cannot_member_here one _ m h))
 
-  pub from_end : {i : ℕ} {a b c d : S} → length xs ≤ i → WritesFrom step s f xs i a b → step b (further false) c → step c ends d → WritesMembers step s (values_of f xs) a d
-  from_end {i} {a} {b} {c} {d} le w m h = w.done d (subst (λ (ys : List A). WritesMembers step s (values_of f ys) b d) (sym (drop_all i xs le)) (writes_no_more c m h))
+  pub from_end : {i : ℕ} {a b d : S} → length xs ≤ i → WritesFrom step s f xs i a b → EndsMembers step b d → WritesMembers step s (values_of f xs) a d
+  from_end {i} {a} {b} {d} le w m = w.done d (subst (λ (ys : List A). WritesMembers step s (values_of f ys) b d) (sym (drop_all i xs le)) (record { chain = λ n f. m }))
 
-  pub from_no_more : {i : ℕ} {a b : S} {y : EncodeError} → length xs ≤ i → WritesFrom step s f xs i a b → Refused step (further false) b y → CannotWriteMembers step s (values_of f xs) a y
-  from_no_more {i} {a} {b} {y} le w h = w.stuck y (subst (λ (ys : List A). CannotWriteMembers step s (values_of f ys) b y) (sym (drop_all i xs le)) (cannot_no_more h))
-
-  pub from_close : OneAfter step → {i : ℕ} {a b c : S} {y : EncodeError} → length xs ≤ i → WritesFrom step s f xs i a b →
-      step b (further false) c → Refused step ends c y → CannotWriteMembers step s (values_of f xs) a y
-  from_close one {i} {a} {b} {c} {y} le w m h = w.stuck y (subst (λ (ys : List A). CannotWriteMembers step s (values_of f ys) b y) (sym (drop_all i xs le)) (cannot_close one m h))
+  pub from_no_end : {i : ℕ} {a b : S} {y : EncodeError} → length xs ≤ i → WritesFrom step s f xs i a b → CannotEndMembers step b y → CannotWriteMembers step s (values_of f xs) a y
+  from_no_end {i} {a} {b} {y} le w h =
+      w.stuck y (subst (λ (ys : List A). CannotWriteMembers step s (values_of f ys) b y) (sym (drop_all i xs le)) (record { none = λ o n c g p. h.none o c p }))

@@ -1,10 +1,10 @@
 -- How the state of an encoder changes, by its relation between the states before and after a record.
-use Rattle.std.specs.Prelude.{◌≡◌, ℕ, Bool, true, false}
+use Rattle.std.specs.Prelude.{◌≡◌, ◌∷◌, [], ℕ, Bool, true, false}
 use Rattle.asn1_model.specs.Value.{Value, Values, Parts}
 use Rattle.asn1_model.specs.Schema.{Presence, Schema}
 use Rattle.asn1_schema_errors.specs.declared.EncodeError.{EncodeError}
 use Rattle.asn1_schema_errors.specs.declared.EncodeError.TheVariants.{OutOfMemory}
-use Rattle.asn1_schema_laws.specs.Records.{Record, presence_bit}
+use Rattle.asn1_schema_laws.specs.Records.{Record, presence_bit, further, ends}
 use Rattle.asn1_schema_laws.specs.Presents.{Part, presents, part_records, member_records, Fits, PartFits, AllFit}
 use Rattle.asn1_schema_laws.specs.Tables.{Table}
 use Rattle.asn1_schema_laws.specs.Chains.{Chain}
@@ -79,3 +79,10 @@ pub record CannotWriteMembers {S : Type 0} (step : S → Record → S → Type 0
     (old : S) (e : EncodeError) : Type 0 where
   pub none : ¬ (e ≡ OutOfMemory) → (n : ℕ) (new : S) → AllFit (λ v. Fits (schema n) v) vs
       → Chain step (member_records (λ v. presents (schema n) v) vs) old new → ⊥
+
+-- The state changes from old to new by the records after the last element of a list: no further one, and the end.
+abbrev pub EndsMembers : {S : Type 0} → (S → Record → S → Type 0) → S → S → Type 0
+EndsMembers step old new = Chain step (further false ∷ ends ∷ []) old new
+
+pub record CannotEndMembers {S : Type 0} (step : S → Record → S → Type 0) (old : S) (e : EncodeError) : Type 0 where
+  pub none : ¬ (e ≡ OutOfMemory) → (new : S) → EndsMembers step old new → ⊥

@@ -5,6 +5,7 @@ ghost use Rattle.asn1_model.specs.Value.{members};
 ghost use Rattle.asn1_schema_laws.specs.Parts.{values_of};
 ghost use Rattle.asn1_schema_types.specs.Told.{list_under};
 ghost use Rattle.asn1_schema_encode.specs.Writes.{Writes, CannotWrite, WritesMembers, CannotWriteMembers};
+ghost use Rattle.asn1_schema_encode.specs.Writes.{EndsMembers, CannotEndMembers};
 ghost use Rattle.asn1_schema_errors.specs.Calls.{EncoderCall};
 
 use crate::encode::{Encode, Encoder};
@@ -60,6 +61,20 @@ pub fn encode_members<T: Encode, E: Encoder>(
         encoder.encode_further(true)?;
         item.encode(encoder)?;
     }
+    end_members(encoder)?;
+    Ok(())
+}
+
+/// Encodes the end of a SEQUENCE OF or SET OF after its last element. It is not inlined, so that the loop over the
+/// elements stays small.
+#[inline(never)]
+fn end_members<E: Encoder>(encoder: &mut E) -> Result<(), EncodeError>
+    ensures ok { OnOk result (EndsMembers E.step encoder.old encoder.new) }
+    ensures only { IfErr result (CannotEndMembers E.step encoder.old) }
+    ensures failed { OnErr result (E.has_failed encoder.new) }
+    ensures front { E.front encoder.new ≡ E.front encoder.old }
+    ensures after { result ≡ Err EncodeError.AlreadyFailed → E.has_failed encoder.old }
+{
     encoder.encode_further(false)?;
     encoder.end()?;
     Ok(())

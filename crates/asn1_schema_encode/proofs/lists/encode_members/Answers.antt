@@ -1,6 +1,6 @@
 use Rattle.std.proofs.Common.{refl, ◌∙◌, arith}
 use Rattle.asn1_schema_laws.proofs.Joined.{raised}
-use Rattle.asn1_schema_encode.proofs.Listing.{from_start, from_next, from_further, from_stuck, from_end, from_no_more, from_close}
+use Rattle.asn1_schema_encode.proofs.Listing.{from_start, from_next, from_further, from_stuck, from_end, from_no_end}
 use Rattle.asn1_schema_encode.proofs.Going.{passed, failed_before_value}
 use Rattle.asn1_schema_encode.proofs.lists.encode_members.Goals as goal
 
@@ -24,21 +24,13 @@ loop-item-preserved g c =
       c.in_ok-encode.ensures.call.front ∙ c.in_ok-encode_further.ensures.call.front ∙ c.loop-item.invariant.2,
     )
 
-pub returns-in_err-encode_further-2-clause-only : goal.returns-in_err-encode_further-2-clause-only
-returns-in_err-encode_further-2-clause-only g c = raised _ _ _ c.from_residual-in_err-encode_further-2.ensures.1
-    (from_no_more (omega arith) c.loop-item.invariant.0 c.in_err-encode_further-2.ensures.only)
-
-pub returns-in_err-end-clause-only : goal.returns-in_err-end-clause-only
-returns-in_err-end-clause-only g c = raised _ _ _ c.from_residual-in_err-end.ensures.1
-    (from_close g.met.E.Encoder.one_after (omega arith) c.loop-item.invariant.0 c.in_ok-encode_further-2.ensures.ok c.in_err-end.ensures.only)
-
 pub returns-clause-ok : goal.returns-clause-ok
-returns-clause-ok g c = from_end (omega arith) c.loop-item.invariant.0 c.in_ok-encode_further-2.ensures.ok c.in_ok-end.ensures.ok
+returns-clause-ok g c = from_end (omega arith) c.loop-item.invariant.0 c.in_ok-end_members.ensures.ok
+
+pub returns-in_err-end_members-clause-only : goal.returns-in_err-end_members-clause-only
+returns-in_err-end_members-clause-only g c = raised _ _ _ c.from_residual-in_err-end_members.ensures.1
+    (from_no_end (omega arith) c.loop-item.invariant.0 c.in_err-end_members.ensures.only)
 
 pub returns-in_err-encode_further-clause-after : goal.returns-in_err-encode_further-clause-after
 returns-in_err-encode_further-clause-after g c =
     passed c.from_residual.ensures.1 (λ e. c.loop-item.invariant.1 (c.in_err-encode_further.ensures.call.after e))
-
-pub returns-in_err-encode_further-2-clause-after : goal.returns-in_err-encode_further-2-clause-after
-returns-in_err-encode_further-2-clause-after g c =
-    passed c.from_residual-in_err-encode_further-2.ensures.1 (λ e. c.loop-item.invariant.1 (c.in_err-encode_further-2.ensures.call.after e))
