@@ -3,7 +3,9 @@ use crate::common::{Nodes, becomes, is_refused, part};
 use asn1_relay_core::Codec;
 use asn1_schema_constraints::Bounded;
 use asn1_schema_tags::Tag;
-use asn1_table_types::{Component, ComponentTable, Event, NumberLimits, Presence, TypeNode};
+use asn1_table_types::{
+    Component, ComponentTable, DefaultValue, Event, NumberLimits, Presence, TypeNode,
+};
 use asn1_values_integers::Integer;
 use std::alloc::{AllocError, Global};
 
@@ -18,43 +20,50 @@ fn group(alloc: Global) -> Result<TypeNode, AllocError> {
     )?))
 }
 
+/// a INTEGER (0..255) DEFAULT 7, b BOOLEAN.
+fn root(alloc: Global) -> Result<Vec<Component>, AllocError> {
+    let seven = DefaultValue::Simple(Event::Number(Integer::from(7)));
+    let mut root = Vec::new(alloc);
+    root.push(part(alloc, 0, Presence::Default(seven), 1)?)?;
+    root.push(part(alloc, 1, Presence::Required, 0)?)?;
+    Ok(root)
+}
+
+/// The group, and e BOOLEAN DEFAULT TRUE.
+fn additions(alloc: Global) -> Result<Vec<Component>, AllocError> {
+    let truth = DefaultValue::Simple(Event::Truth(true));
+    let mut additions = Vec::new(alloc);
+    additions.push(Component {
+        tags: Vec::from_array(alloc, [Tag::new_context(2), Tag::new_context(3)])?,
+        presence: Presence::Optional,
+        place: 2,
+    })?;
+    additions.push(part(alloc, 4, Presence::Default(truth), 0)?)?;
+    Ok(additions)
+}
+
 /// SEQUENCE {a INTEGER (0..255) DEFAULT 7, b BOOLEAN, ..., [[c BOOLEAN OPTIONAL, d BOOLEAN OPTIONAL]],
-/// e BOOLEAN DEFAULT TRUE}, at 3.
+/// e BOOLEAN DEFAULT TRUE}.
+fn table(alloc: Global) -> Result<ComponentTable, AllocError> {
+    Ok(ComponentTable {
+        root: root(alloc)?,
+        is_extensible: true,
+        additions: additions(alloc)?,
+    })
+}
+
+/// The SEQUENCE at 3.
 fn record(alloc: Global) -> Nodes {
     let octet = NumberLimits {
         root: Bounded::const_new(0, 255),
         is_extensible: false,
     };
-    let seven = Vec::from_array(alloc, [Event::Number(Integer::from(7))])?;
-    let truth = Vec::from_array(alloc, [Event::Truth(true)])?;
-    let additions = Component {
-        tags: Vec::from_array(alloc, [Tag::new_context(2), Tag::new_context(3)])?,
-        presence: Presence::Optional,
-        place: 2,
-    };
-    let table = ComponentTable {
-        root: Vec::from_array(
-            alloc,
-            [
-                part(alloc, 0, Presence::Default(seven), 1)?,
-                part(alloc, 1, Presence::Required, 0)?,
-            ],
-        )?,
-        is_extensible: true,
-        additions: Vec::from_array(
-            alloc,
-            [additions, part(alloc, 4, Presence::Default(truth), 0)?],
-        )?,
-    };
-    Ok(Vec::from_array(
-        alloc,
-        [
-            TypeNode::Boolean,
-            TypeNode::Integer(Some(octet)),
-            group(alloc)?,
-            TypeNode::Sequence(table),
-        ],
-    )?)
+    let mut nodes = Vec::new(alloc);
+    nodes.push(TypeNode::Boolean)?;
+    nodes.push(TypeNode::Integer(Some(octet)))?;
+    nodes.push(group(alloc)?)?;
+    nodes.push(TypeNode::Sequence(table(alloc)?))?;
+    Ok(nodes)
 }
 
 /// {a 7, b TRUE, [[]], e TRUE}, all spelled out, in UPER (X.691 19) and in OER (X.696 16).

@@ -1,5 +1,5 @@
 -- Values of one record, and indices of no type.
-use Rattle.std.proofs.Common.{◌≡◌, ◌∙◌, refl, sym, ap, subst, ℕ, ℤ, Vec, Global, Bool, true, false, List, [], ◌∷◌, ◌++◌, Option, Some, None, slice_get}
+use Rattle.std.proofs.Common.{◌≡◌, ◌∙◌, refl, sym, ap, subst, ℕ, ℤ, Vec, Global, Bool, true, List, [], ◌∷◌, ◌++◌, Option, Some, None, slice_get}
 use Rattle.asn1_model.specs.Value.{Value, same_number, truth, nothing, number, item, bit_list, octet_list, text, arcs}
 use Rattle.asn1_model.specs.Schema.{Bounds, Range, Size, Alphabet, Schema, boolean, null, object_identifier, any_count}
 use Rattle.asn1_model.specs.Lawful.{is_lawful, are_distinct}

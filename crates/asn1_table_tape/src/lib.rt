@@ -2,6 +2,7 @@
 //! one record, and gives the records of a tape to an encoder.
 #![tactic(auto, using(std::proofs::lemmas::Grind::common_steps))]
 
+mod defaults;
 mod noted;
 mod replaying;
 mod scalars;

@@ -10,12 +10,13 @@ ghost use Rattle.asn1_model.specs.Schema.{Schema};
 ghost use Rattle.asn1_model.specs.Value.{Value};
 ghost use Rattle.asn1_schema_laws.specs.Presents.{presents, Fits};
 ghost use Rattle.asn1_table_tape.specs.Records.{records_of};
-ghost use Rattle.asn1_table_tape.specs.Values.{is_scalar, is_value, is_absence};
+ghost use Rattle.asn1_table_tape.specs.Values.{is_absence};
 ghost use Rattle.asn1_table_types.specs.Meaning.{presence_of, type_at};
 ghost use Rattle.asn1_table_types.specs.declared.nodes.TypeNode.{TypeNode as Node};
 
+use crate::defaults::is_value;
 use crate::tape::Event;
-use asn1_table_types::{Event as Scalar, Presence, TypeNode, Types};
+use asn1_table_types::{Presence, TypeNode, Types};
 
 /// Whether a component with this presence has its default as its value, if its type is lawful and the default is one of
 /// its values.
@@ -25,49 +26,8 @@ pub fn is_default(presence: &Presence, value: &[Event]) -> bool
         → result ≡ is_at_default (presence_of presence.now) s v }
 {
     match presence {
-        Presence::Default(default) => is_default_value(default.as_slice(), value),
+        Presence::Default(default) => is_value(default, value),
         _ => false,
-    }
-}
-
-// Whether a value is that of a default, which is one without parts.
-fn is_default_value(default: &[Scalar], value: &[Event]) -> bool
-    ensures { result ≡ is_value default.now value.now }
-{
-    default.len() == 1 && value.len() == 1 && is_same(&default[0], &value[0])
-}
-
-// Whether a record is the value of a default.
-#[tactic(auto, using(std::proofs::lemmas::Grind::common_steps), unfolding(asn1_model::specs::Value::same))]
-fn is_same(default: &Scalar, event: &Event) -> bool
-    ensures { result ≡ is_scalar default.now event.now }
-{
-    match default {
-        Scalar::Truth(value) => match event {
-            Event::Flag(flag) => *flag == *value,
-            _ => false,
-        },
-        Scalar::Nothing => matches!(event, Event::Nil),
-        Scalar::Number(value) => match event {
-            Event::Number(_, number) => number == value,
-            _ => false,
-        },
-        Scalar::Item(value) => match event {
-            Event::Item(_, item) => *item == *value,
-            _ => false,
-        },
-        Scalar::Bits(value) => match event {
-            Event::Bits(_, bits) => bits == value,
-            _ => false,
-        },
-        Scalar::Octets(value) => match event {
-            Event::Octets(_, octets) => octets.as_slice() == value.as_slice(),
-            _ => false,
-        },
-        Scalar::Arcs(value) => match event {
-            Event::Arcs(arcs) => arcs == value,
-            _ => false,
-        },
     }
 }
 

@@ -5,23 +5,23 @@ ghost use Rattle.std.specs.Prelude.{◌≡◌, Err, IfErr, OnOk, OnErr, slice_ge
 ghost use Rattle.asn1_schema_encode.specs.Writes.{Refused};
 ghost use Rattle.asn1_schema_errors.specs.Calls.{EncoderCall};
 ghost use Rattle.asn1_schema_laws.specs.Chains.{Chain};
-ghost use Rattle.asn1_schema_laws.specs.Records.{identifier};
+ghost use Rattle.asn1_schema_laws.specs.Records.{identifier, whole};
 ghost use Rattle.asn1_table_tape.specs.Records.{record_of, records_of, number_record, item_record};
 ghost use Rattle.asn1_table_tape.specs.Records.{bits_record, octets_record, list_record, choice_record};
 ghost use Rattle.asn1_table_tape.specs.Replays.{CannotChain};
 ghost use Rattle.asn1_table_types.specs.Choices.{tags_at};
+ghost use Rattle.asn1_table_types.specs.Meaning.{bounds_in, held_in};
 
 use crate::strings::replay_text;
 use crate::tape::Event;
 use crate::terms::{
-    any_sizes, bit_sizes_at, items_at, limits_at, number_constraints, octet_sizes_at,
-    size_constraints,
+    any_sizes, bit_sizes_at, items_at, number_constraints, octet_sizes_at, size_constraints,
 };
 use asn1_schema_constraints::Bounded;
 use asn1_schema_encode::Encoder;
 use asn1_schema_errors::EncodeError;
 use asn1_schema_tags::{Chosen, Identifier, Tag};
-use asn1_table_types::{TypeNode, Types};
+use asn1_table_types::{NumberLimits, TypeNode, Types};
 use asn1_values_bit_strings::BitString;
 use asn1_values_identifiers::ObjectIdentifier;
 use asn1_values_integers::Integer;
@@ -43,6 +43,7 @@ pub fn replay<E: Encoder>(encoder: &mut E, types: &Types, tape: &[Event]) -> Res
 }
 
 // One record.
+#[inline(always)]
 fn replay_one<E: Encoder>(encoder: &mut E, types: &Types, event: &Event) -> Result<(), EncodeError>
     ensures ok { OnOk result
         (E.step encoder.old (record_of types.now.nodes.items event.now) encoder.new) }
@@ -94,8 +95,25 @@ fn replay_number<E: Encoder>(
         (Refused E.step (number_record (slice_get types.now.nodes.items place) value.now) encoder.old) }
     ensures call { EncoderCall E.has_failed E.front encoder.old encoder.new result }
 {
-    let limits = limits_at(types, place);
-    let constraints = number_constraints(&limits);
+    match types.node(place) {
+        Some(TypeNode::Integer(limits)) => write_number(encoder, limits, value),
+        _ => write_number(encoder, &None, value),
+    }
+}
+
+// A number with these limits.
+fn write_number<E: Encoder>(
+    encoder: &mut E,
+    limits: &Option<NumberLimits>,
+    value: &Integer,
+) -> Result<(), EncodeError>
+    ensures ok { OnOk result
+        (E.step encoder.old (whole (bounds_in limits.now) (held_in limits.now) value.now) encoder.new) }
+    ensures only { IfErr result
+        (Refused E.step (whole (bounds_in limits.now) (held_in limits.now) value.now) encoder.old) }
+    ensures call { EncoderCall E.has_failed E.front encoder.old encoder.new result }
+{
+    let constraints = number_constraints(limits);
     encoder.encode_integer(Tag::INTEGER, &constraints, value, Identifier::INTEGER)?;
     Ok(())
 }

@@ -88,59 +88,35 @@ fn read_characters<D: Decoder>(
 {
     match kind {
         StringKind::Numeric => {
-            let text: NumericString = decoder.decode_characters(
-                alloc,
-                Tag::NUMERIC_STRING,
-                constraints,
-            )?;
+            let text = decoder.decode_characters(alloc, Tag::NUMERIC_STRING, constraints)?;
             Ok(CharacterString::Numeric(text))
         }
         StringKind::Printable => {
-            let text: PrintableString = decoder.decode_characters(
-                alloc,
-                Tag::PRINTABLE_STRING,
-                constraints,
-            )?;
+            let text = decoder.decode_characters(alloc, Tag::PRINTABLE_STRING, constraints)?;
             Ok(CharacterString::Printable(text))
         }
         StringKind::Visible => {
-            let text: VisibleString = decoder.decode_characters(
-                alloc,
-                Tag::VISIBLE_STRING,
-                constraints,
-            )?;
+            let text = decoder.decode_characters(alloc, Tag::VISIBLE_STRING, constraints)?;
             Ok(CharacterString::Visible(text))
         }
         StringKind::Ia5 => {
-            let text: Ia5String = decoder.decode_characters(alloc, Tag::IA5_STRING, constraints)?;
+            let text = decoder.decode_characters(alloc, Tag::IA5_STRING, constraints)?;
             Ok(CharacterString::Ia5(text))
         }
         StringKind::Bmp => {
-            let text: BmpString = decoder.decode_characters(alloc, Tag::BMP_STRING, constraints)?;
+            let text = decoder.decode_characters(alloc, Tag::BMP_STRING, constraints)?;
             Ok(CharacterString::Bmp(text))
         }
         StringKind::General => {
-            let text: GeneralString = decoder.decode_characters(
-                alloc,
-                Tag::GENERAL_STRING,
-                constraints,
-            )?;
+            let text = decoder.decode_characters(alloc, Tag::GENERAL_STRING, constraints)?;
             Ok(CharacterString::General(text))
         }
         StringKind::Graphic => {
-            let text: GraphicString = decoder.decode_characters(
-                alloc,
-                Tag::GRAPHIC_STRING,
-                constraints,
-            )?;
+            let text = decoder.decode_characters(alloc, Tag::GRAPHIC_STRING, constraints)?;
             Ok(CharacterString::Graphic(text))
         }
         StringKind::Teletex => {
-            let text: TeletexString = decoder.decode_characters(
-                alloc,
-                Tag::TELETEX_STRING,
-                constraints,
-            )?;
+            let text = decoder.decode_characters(alloc, Tag::TELETEX_STRING, constraints)?;
             Ok(CharacterString::Teletex(text))
         }
         StringKind::Utf8 => {
@@ -179,66 +155,45 @@ fn write_characters<E: Encoder>(
         (Refused E.step (characters_under (kind_in text.now) constraints.now (text_of text.now)) encoder.old) }
     ensures call { EncoderCall E.has_failed E.front encoder.old encoder.new result }
 {
+    let (tag, name) = names_of(text);
     match text {
         CharacterString::Numeric(text) => {
-            encoder.encode_characters(
-                Tag::NUMERIC_STRING,
-                constraints,
-                text,
-                Identifier::NUMERIC_STRING,
-            )
+            encoder.encode_characters(tag, constraints, text, name)
         }
         CharacterString::Printable(text) => {
-            encoder.encode_characters(
-                Tag::PRINTABLE_STRING,
-                constraints,
-                text,
-                Identifier::PRINTABLE_STRING,
-            )
+            encoder.encode_characters(tag, constraints, text, name)
         }
         CharacterString::Visible(text) => {
-            encoder.encode_characters(
-                Tag::VISIBLE_STRING,
-                constraints,
-                text,
-                Identifier::VISIBLE_STRING,
-            )
+            encoder.encode_characters(tag, constraints, text, name)
         }
-        CharacterString::Ia5(text) => {
-            encoder.encode_characters(Tag::IA5_STRING, constraints, text, Identifier::IA5_STRING)
-        }
-        CharacterString::Bmp(text) => {
-            encoder.encode_characters(Tag::BMP_STRING, constraints, text, Identifier::BMP_STRING)
-        }
+        CharacterString::Ia5(text) => { encoder.encode_characters(tag, constraints, text, name) }
+        CharacterString::Bmp(text) => { encoder.encode_characters(tag, constraints, text, name) }
         CharacterString::General(text) => {
-            encoder.encode_characters(
-                Tag::GENERAL_STRING,
-                constraints,
-                text,
-                Identifier::GENERAL_STRING,
-            )
+            encoder.encode_characters(tag, constraints, text, name)
         }
         CharacterString::Graphic(text) => {
-            encoder.encode_characters(
-                Tag::GRAPHIC_STRING,
-                constraints,
-                text,
-                Identifier::GRAPHIC_STRING,
-            )
+            encoder.encode_characters(tag, constraints, text, name)
         }
         CharacterString::Teletex(text) => {
-            encoder.encode_characters(
-                Tag::TELETEX_STRING,
-                constraints,
-                text,
-                Identifier::TELETEX_STRING,
-            )
+            encoder.encode_characters(tag, constraints, text, name)
         }
-        CharacterString::Utf8(text) => encoder.encode_utf8_string(
-            Tag::UTF8_STRING,
-            constraints,
-            text.as_str(),
-            Identifier::UTF8_STRING,
-        ),
+        CharacterString::Utf8(text) => {
+            encoder.encode_utf8_string(tag, constraints, text.as_str(), name)
+        }
+    }
+}
+
+// The tag and the name of a string's type.
+fn names_of(text: &CharacterString) -> (Tag, Identifier) {
+    match text {
+        CharacterString::Numeric(_) => (Tag::NUMERIC_STRING, Identifier::NUMERIC_STRING),
+        CharacterString::Printable(_) => (Tag::PRINTABLE_STRING, Identifier::PRINTABLE_STRING),
+        CharacterString::Visible(_) => (Tag::VISIBLE_STRING, Identifier::VISIBLE_STRING),
+        CharacterString::Ia5(_) => (Tag::IA5_STRING, Identifier::IA5_STRING),
+        CharacterString::Bmp(_) => (Tag::BMP_STRING, Identifier::BMP_STRING),
+        CharacterString::General(_) => (Tag::GENERAL_STRING, Identifier::GENERAL_STRING),
+        CharacterString::Graphic(_) => (Tag::GRAPHIC_STRING, Identifier::GRAPHIC_STRING),
+        CharacterString::Teletex(_) => (Tag::TELETEX_STRING, Identifier::TELETEX_STRING),
+        CharacterString::Utf8(_) => (Tag::UTF8_STRING, Identifier::UTF8_STRING),
     }
 }

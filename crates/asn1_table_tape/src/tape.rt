@@ -55,6 +55,7 @@ pub enum Event {
 }
 
 /// Appends a record. If memory runs out, the decoder fails.
+#[inline(always)]
 pub fn keep<D: Decoder>(
     decoder: &mut D,
     tape: &mut Vec<Event>,
@@ -66,9 +67,10 @@ pub fn keep<D: Decoder>(
     ensures memory { IfErr result (λ e. e ≡ DecodeError.OutOfMemory) }
     ensures failed { OnErr result (D.has_failed decoder.new) }
 {
-    let Ok(()) = tape.push(event) else {
+    let Ok(()) = tape.reserve(1) else {
         return Err(decoder.refuse(DecodeError::OutOfMemory));
     };
+    tape.push_reserved(event);
     Ok(())
 }
 

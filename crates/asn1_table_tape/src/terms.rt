@@ -6,8 +6,8 @@ ghost use Rattle.asn1_model.specs.Normal.{is_required};
 ghost use Rattle.asn1_model.specs.Schema.{any_number, any_count, any_size};
 ghost use Rattle.asn1_schema_constraints.specs.Terms.{bounds_of, held_of, sizes_of, size_of, alphabet_of};
 ghost use Rattle.asn1_table_types.specs.Meaning.{bounds_in, held_in, alphabet_in, presence_of};
-ghost use Rattle.asn1_schema_laws.specs.Records.{whole, one_of, bits, octets};
-ghost use Rattle.asn1_table_tape.specs.Records.{number_record, item_record, bits_record};
+ghost use Rattle.asn1_schema_laws.specs.Records.{one_of, bits, octets};
+ghost use Rattle.asn1_table_tape.specs.Records.{item_record, bits_record};
 ghost use Rattle.asn1_table_tape.specs.Terms.{optional_in};
 ghost use Rattle.asn1_schema_types.specs.Told.{characters_under};
 ghost use Rattle.asn1_table_tape.specs.Strings.{kind_in, text_of};
@@ -77,17 +77,6 @@ pub fn count_optional(components: &[Component]) -> usize
         }
     }
     count
-}
-
-/// The value constraint of the INTEGER at this index; none if another type is there.
-pub fn limits_at(types: &Types, place: usize) -> Option<NumberLimits>
-    ensures { (v : ℤ) → number_record (slice_get types.now.nodes.items place) v
-        ≡ whole (bounds_in result) (held_in result) v }
-{
-    match types.node(place) {
-        Some(TypeNode::Integer(limits)) => *limits,
-        _ => None,
-    }
 }
 
 /// The index of the elements' type of the SEQUENCE OF or SET OF at this index, if one is there.

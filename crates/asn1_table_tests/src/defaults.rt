@@ -1,25 +1,36 @@
 //! Components with DEFAULT: a value of each kind, and values of other types.
-use crate::common::{ANY, Nodes, is_made, is_refused, part};
+use crate::common::{ANY, Nodes, choice, is_made, is_refused, part};
 use asn1_schema_constraints::{Bounded, Sizes};
-use asn1_table_types::{ComponentTable, Event, Flaw, ItemTable, NumberLimits, Presence, TypeNode};
+use asn1_schema_tags::Chosen;
+use asn1_table_types::{
+    Component, ComponentTable, DefaultValue, Event, Flaw, ItemTable, NumberLimits, Presence,
+    StringKind, StringTable, TypeNode,
+};
 use asn1_values_bit_strings::BitString;
 use asn1_values_integers::Integer;
-use std::alloc::Global;
+use std::alloc::{AllocError, Global};
 
-/// A type, and a SEQUENCE with a component of that type and this default.
-fn with_tape(alloc: Global, node: TypeNode, tape: Vec<Event>) -> Nodes {
-    let component = part(alloc, &[0], Presence::Default(tape), 0)?;
-    let table = ComponentTable {
+/// A SEQUENCE with this component.
+fn sequence(alloc: Global, component: Component) -> Result<TypeNode, AllocError> {
+    Ok(TypeNode::Sequence(ComponentTable {
         root: Vec::from_array(alloc, [component])?,
         is_extensible: false,
         additions: Vec::new(alloc),
-    };
-    Ok(Vec::from_array(alloc, [node, TypeNode::Sequence(table)])?)
+    }))
 }
 
-/// The same with a default of one event.
+/// A type, and a SEQUENCE with a component of that type and this default.
 fn with_default(alloc: Global, node: TypeNode, event: Event) -> Nodes {
-    with_tape(alloc, node, Vec::from_array(alloc, [event])?)
+    let presence = Presence::Default(DefaultValue::Simple(event));
+    let component = part(alloc, &[0], presence, 0)?;
+    Ok(Vec::from_array(alloc, [node, sequence(alloc, component)?])?)
+}
+
+/// BOOLEAN, a type with parts of it, and a SEQUENCE with a component of that type and this default.
+fn with_parts(alloc: Global, node: TypeNode, default: DefaultValue) -> Nodes {
+    let component = part(alloc, &[0], Presence::Default(default), 1)?;
+    let nodes = [TypeNode::Boolean, node, sequence(alloc, component)?];
+    Ok(Vec::from_array(alloc, nodes)?)
 }
 
 /// INTEGER (0..10).
@@ -31,7 +42,7 @@ fn up_to_ten() -> TypeNode {
 }
 
 /// ENUMERATED with the items 0 and 2, and the added item 5.
-fn items(alloc: Global) -> Result<TypeNode, std::alloc::AllocError> {
+fn items(alloc: Global) -> Result<TypeNode, AllocError> {
     Ok(TypeNode::Enumerated(ItemTable {
         root: Vec::from_array(alloc, [0, 2])?,
         is_extensible: true,
@@ -77,12 +88,6 @@ fn right_defaults(rt: HostRuntime) {
     assert!(rt; is_made(alloc, with_default(alloc, TypeNode::BitString(ANY), bits)));
 }
 
-/// NULL with a default of two events.
-fn twice(alloc: Global) -> Nodes {
-    let tape = Vec::from_array(alloc, [Event::Nothing, Event::Nothing])?;
-    with_tape(alloc, TypeNode::Null, tape)
-}
-
 /// Whether the SEQUENCE is refused for its default.
 fn is_wrong(alloc: Global, nodes: Nodes) -> bool {
     is_refused(alloc, nodes, 1, Flaw::DefaultOfOtherType)
@@ -97,9 +102,105 @@ fn wrong_defaults(rt: HostRuntime) {
             with_default(alloc, TypeNode::Boolean, Event::Nothing)
         )
     );
-    assert!(rt; is_wrong(alloc, with_tape(alloc, TypeNode::Boolean, Vec::new(alloc))));
-    assert!(rt; is_wrong(alloc, twice(alloc)));
     assert!(rt; is_wrong(alloc, number(alloc, 11)));
     assert!(rt; is_wrong(alloc, item(alloc, 1)));
     assert!(rt; is_wrong(alloc, octets(alloc, &[])));
+}
+
+/// A character string of a kind, with these octets as its default.
+fn text(alloc: Global, kind: StringKind, octets: &[u8]) -> Nodes {
+    let table = StringTable {
+        kind,
+        sizes: Sizes {
+            root: Bounded::Single(2),
+            is_extensible: false,
+        },
+        alphabet: None,
+    };
+    let octets = Vec::from_slice(alloc, octets)?;
+    with_default(alloc, TypeNode::CharacterString(table), Event::Text(octets))
+}
+
+#[test]
+fn defaults_of_strings(rt: HostRuntime) {
+    let alloc = rt.alloc();
+    assert!(rt; is_made(alloc, text(alloc, StringKind::Numeric, b"1 ")));
+    assert!(rt; is_made(alloc, text(alloc, StringKind::Printable, b"a?")));
+    assert!(rt; is_made(alloc, text(alloc, StringKind::Visible, b"a*")));
+    assert!(rt; is_made(alloc, text(alloc, StringKind::Ia5, &[0, 0x7F])));
+    assert!(rt; is_made(alloc, text(alloc, StringKind::Bmp, &[0xE9, 0xFF])));
+    assert!(rt; is_made(alloc, text(alloc, StringKind::General, &[0xFF])));
+    assert!(rt; is_made(alloc, text(alloc, StringKind::Utf8, &[0xC3, 0xA9, 0x61])));
+}
+
+#[test]
+fn wrong_defaults_of_strings(rt: HostRuntime) {
+    let alloc = rt.alloc();
+    assert!(rt; is_wrong(alloc, text(alloc, StringKind::Numeric, b"1a")));
+    assert!(rt; is_wrong(alloc, text(alloc, StringKind::Printable, b"a*")));
+    assert!(rt; is_wrong(alloc, text(alloc, StringKind::Visible, &[0x61, 0x1F])));
+    assert!(rt; is_wrong(alloc, text(alloc, StringKind::Ia5, &[0x61, 0x80])));
+    assert!(rt; is_wrong(alloc, text(alloc, StringKind::Ia5, b"abc")));
+    assert!(rt; is_wrong(alloc, text(alloc, StringKind::Utf8, &[0xC3, 0x61])));
+}
+
+/// SEQUENCE OF BOOLEAN with these elements as its default.
+fn list(alloc: Global, elements: Vec<Event>) -> Nodes {
+    let node = TypeNode::SequenceOf(ANY, 0);
+    with_parts(alloc, node, DefaultValue::SequenceOf(elements))
+}
+
+/// SET OF BOOLEAN with this element, or none, as its default.
+fn bag(alloc: Global, element: Option<Event>) -> Nodes {
+    with_parts(alloc, TypeNode::SetOf(ANY, 0), DefaultValue::SetOf(element))
+}
+
+/// CHOICE {a BOOLEAN, b BOOLEAN, ..., c BOOLEAN} with this default.
+fn chosen(alloc: Global, chosen: Chosen, event: Event) -> Nodes {
+    let node = TypeNode::Choice(choice(alloc, &[0, 1], true, &[2])?);
+    with_parts(alloc, node, DefaultValue::Choice(chosen, event))
+}
+
+/// TRUE and another element.
+fn pair(alloc: Global, event: Event) -> Nodes {
+    list(alloc, Vec::from_array(alloc, [Event::Truth(true), event])?)
+}
+
+#[test]
+fn defaults_with_parts(rt: HostRuntime) {
+    let alloc = rt.alloc();
+    assert!(rt; is_made(alloc, list(alloc, Vec::new(alloc))));
+    assert!(rt; is_made(alloc, pair(alloc, Event::Truth(false))));
+    assert!(rt; is_made(alloc, bag(alloc, None)));
+    assert!(rt; is_made(alloc, bag(alloc, Some(Event::Truth(true)))));
+    assert!(rt; is_made(alloc, chosen(alloc, Chosen::root(1), Event::Truth(true))));
+    assert!(rt;
+        is_made(
+            alloc,
+            chosen(alloc, Chosen::addition(0), Event::Truth(true))
+        )
+    );
+}
+
+/// Whether the SEQUENCE after a type with parts is refused for its default.
+fn is_wrong_whole(alloc: Global, nodes: Nodes) -> bool {
+    is_refused(alloc, nodes, 2, Flaw::DefaultOfOtherType)
+}
+
+#[test]
+fn wrong_defaults_with_parts(rt: HostRuntime) {
+    let alloc = rt.alloc();
+    assert!(rt; is_wrong_whole(alloc, pair(alloc, Event::Nothing)));
+    assert!(rt; is_wrong_whole(alloc, bag(alloc, Some(Event::Nothing))));
+    assert!(rt; is_wrong_whole(alloc, chosen(alloc, Chosen::root(2), Event::Truth(true))));
+    assert!(rt; is_wrong_whole(alloc, chosen(alloc, Chosen::addition(0), Event::Nothing)));
+    let simple = DefaultValue::Simple(Event::Truth(true));
+    assert!(rt;
+        is_wrong_whole(
+            alloc,
+            with_parts(alloc, TypeNode::SequenceOf(ANY, 0), simple)
+        )
+    );
+    let list = DefaultValue::SequenceOf(Vec::new(alloc));
+    assert!(rt; is_wrong_whole(alloc, with_parts(alloc, TypeNode::SetOf(ANY, 0), list)));
 }

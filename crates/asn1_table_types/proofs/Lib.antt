@@ -8,3 +8,4 @@ pub mod Deciding
 pub mod Scalars
 pub mod Inserting
 pub mod Tagged
+pub mod Composed

@@ -1,4 +1,4 @@
-pub mod Tapes
+pub mod Values
 pub mod Meaning
 pub mod Defaults
 pub mod Orders

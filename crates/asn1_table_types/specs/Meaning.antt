@@ -13,7 +13,7 @@ use Rattle.asn1_schema_constraints.specs.Bounds.{range_of, members_of}
 use Rattle.asn1_schema_constraints.specs.Terms.{size_of}
 use Rattle.asn1_schema_constraints.specs.declared.bounds.Bounded.TheVariants.{None as Unbounded}
 use Rattle.asn1_schema_tags.specs.Tags.{tag_of}
-use Rattle.asn1_table_types.specs.Tapes.{value_of}
+use Rattle.asn1_table_types.specs.Values.{value_of}
 use Rattle.asn1_table_types.specs.declared.nodes.NumberLimits.{NumberLimits}
 use Rattle.asn1_table_types.specs.declared.nodes.CharacterTable.{CharacterTable}
 use Rattle.asn1_table_types.specs.declared.nodes.StringKind.{StringKind}
@@ -55,7 +55,7 @@ alphabet_in (Some a) = record { characters = Some a.characters.items; extensible
 abbrev pub presence_of : Presence → model.Presence
 presence_of Required = model.required
 presence_of Optional = model.optional
-presence_of (Default tape) = model.by_default (value_of tape.items)
+presence_of (Default d) = model.by_default (value_of d)
 
 -- Components, with the type at each index.
 abbrev pub components_of : (ℕ → Schema) → List Component → Components

@@ -1,20 +1,32 @@
 //! Whether defaults are values of their components' types (X.680 25).
 #![tactic(auto, using(std::proofs::lemmas::Grind::common_steps))]
 
-ghost use Rattle.std.specs.Prelude.{◌≡◌, ℕ, true, ◌&&◌, IfErr, OnOk, Some, length};
+ghost use Rattle.std.specs.Prelude.{◌≡◌, ◌<◌, ◌^◌, ℕ, true, ◌&&◌, IfErr, OnOk, Some, length, slice_get};
+ghost use Rattle.std.specs.Option.{option_map};
 ghost use Rattle.asn1_model.specs.Lawful.{is_of, has_typed_default};
 ghost use Rattle.std.specs.List.{list_all};
-ghost use Rattle.asn1_model.specs.Strings.{is_identifier, is_octet};
-ghost use Rattle.asn1_table_types.specs.Defaults.{is_number_of, is_item_of, is_size_of, is_scalar, AtSome, Decides};
+ghost use Rattle.asn1_model.specs.Strings.{is_identifier, is_octet, is_of_octets, may_hold};
+ghost use Rattle.asn1_model.specs.Value.{are_all, members, bag, chosen as chosen_value};
+ghost use Rattle.asn1_table_types.specs.Defaults.{is_number_of, is_item_of, is_size_of, is_text_of, is_scalar};
+ghost use Rattle.asn1_table_types.specs.Defaults.{elements_place, bag_place, chosen_place, place_in, AtSome, Decides};
 ghost use Rattle.asn1_table_types.specs.Flaws.{has_defaults, have_defaults, lacks};
-ghost use Rattle.asn1_table_types.specs.Meaning.{components_of, presence_of, type_of, type_at};
-ghost use Rattle.asn1_table_types.specs.Tapes.{value_of};
+ghost use Rattle.asn1_table_types.specs.Meaning.{components_of, kind_of, presence_of, type_of, type_at};
+ghost use Rattle.asn1_table_types.specs.Values.{scalar_of, value_of, values_of, list_of};
+ghost use Rattle.asn1_values_alphabets.specs.Permitted.{permits_all};
 
 use crate::items::item_differs;
-use crate::{Component, Event, Flaw, ItemTable, NumberLimits, Presence, TypeNode};
+use crate::{
+    Alternative, AlternativeTable, Component, DefaultValue, Event, Flaw, ItemTable, NumberLimits,
+    Presence, StringKind, StringTable, TypeNode,
+};
 use asn1_schema_constraints::{Bounded, Sizes};
+use asn1_schema_tags::Chosen;
 use asn1_values_identifiers::{ObjectIdentifier, subidentifiers_of};
 use asn1_values_integers::Integer;
+use asn1_values_strings::utf8_texts::text_of;
+use asn1_values_strings::{
+    CharacterKind, General, Graphic, Ia5, Numeric, Printable, Teletex, Visible,
+};
 
 /// The defaults of a node's components are values of the components' types.
 pub fn check_defaults(nodes: &[TypeNode], node: &TypeNode) -> Result<(), Flaw>
@@ -69,18 +81,149 @@ fn is_right(nodes: &[TypeNode], component: &Component) -> bool
         (presence_of component.now.presence)) result }
 {
     match &component.presence {
-        Presence::Default(tape) => is_of_type(nodes, component.place, tape.as_slice()),
+        Presence::Default(value) => is_of_type(nodes, component.place, value),
         _ => true,
     }
 }
 
-/// Whether a tape has a value of the type at an index.
-fn is_of_type(nodes: &[TypeNode], place: usize, tape: &[Event]) -> bool
-    ensures { Decides (λ n. is_of (type_at nodes.now n place) (value_of tape.now)) result }
+/// Whether a value is of the type at an index.
+fn is_of_type(nodes: &[TypeNode], place: usize, value: &DefaultValue) -> bool
+    ensures { Decides (λ n. is_of (type_at nodes.now n place) (value_of value.now)) result }
 {
     match nodes.get(place) {
         None => true,
-        Some(node) => tape.len() == 1 && is_scalar_of(node, &tape[0]),
+        Some(node) => is_of_node(nodes, node, value),
+    }
+}
+
+/// Whether a value is of a type.
+fn is_of_node(nodes: &[TypeNode], node: &TypeNode, value: &DefaultValue) -> bool
+    ensures { Decides (λ n. is_of (type_of nodes.now n (Some node.now)) (value_of value.now)) result }
+{
+    match value {
+        DefaultValue::Simple(event) => is_scalar_of(node, event),
+        DefaultValue::SequenceOf(elements) => is_sequence_of(nodes, node, elements.as_slice()),
+        DefaultValue::SetOf(element) => is_set_of(nodes, node, element),
+        DefaultValue::Choice(chosen, event) => is_choice_of(nodes, node, *chosen, event),
+    }
+}
+
+/// Whether a SEQUENCE OF values without parts is of a type.
+fn is_sequence_of(nodes: &[TypeNode], node: &TypeNode, elements: &[Event]) -> bool
+    ensures { length elements.now < 2 ^ 64
+        → Decides (λ n. is_of (type_of nodes.now n (Some node.now)) (members (values_of elements.now))) result }
+{
+    match elements_place(node) {
+        None => false,
+        Some(place) => are_scalars_at(nodes, place, elements),
+    }
+}
+
+/// Whether a SET OF one value without parts, or of none, is of a type.
+fn is_set_of(nodes: &[TypeNode], node: &TypeNode, element: &Option<Event>) -> bool
+    ensures { Decides (λ n. is_of (type_of nodes.now n (Some node.now)) (bag (values_of (list_of element.now))))
+        result }
+{
+    match bag_place(node) {
+        None => false,
+        Some(place) => is_element_at(nodes, place, element),
+    }
+}
+
+/// Whether a value without parts, as the chosen alternative of a CHOICE, is of a type.
+fn is_choice_of(nodes: &[TypeNode], node: &TypeNode, chosen: Chosen, event: &Event) -> bool
+    ensures { Decides (λ n. is_of (type_of nodes.now n (Some node.now))
+        (chosen_value chosen.added chosen.place (scalar_of event.now))) result }
+{
+    match chosen_place(node, chosen) {
+        None => false,
+        Some(place) => is_scalar_at(nodes, place, event),
+    }
+}
+
+/// The index of the type of a SEQUENCE OF's elements.
+fn elements_place(node: &TypeNode) -> Option<usize>
+    ensures { result ≡ elements_place node.now }
+{
+    match node {
+        TypeNode::SequenceOf(_sizes, place) => Some(*place),
+        _ => None,
+    }
+}
+
+/// The index of the type of a SET OF's elements.
+fn bag_place(node: &TypeNode) -> Option<usize>
+    ensures { result ≡ bag_place node.now }
+{
+    match node {
+        TypeNode::SetOf(_sizes, place) => Some(*place),
+        _ => None,
+    }
+}
+
+/// The index of the type of the chosen alternative of a CHOICE, if there is one.
+fn chosen_place(node: &TypeNode, chosen: Chosen) -> Option<usize>
+    ensures { result ≡ chosen_place chosen.added chosen.place node.now }
+{
+    match node {
+        TypeNode::Choice(table) => place_in(table, chosen),
+        _ => None,
+    }
+}
+
+/// The index of the type of an alternative, if there is one.
+fn place_in(table: &AlternativeTable, chosen: Chosen) -> Option<usize>
+    ensures { result ≡ place_in chosen.added chosen.place table.now }
+{
+    if !chosen.added {
+        return place_among(table.root.as_slice(), chosen.place);
+    }
+    if !table.is_extensible {
+        return None;
+    }
+    place_among(table.additions.as_slice(), chosen.place)
+}
+
+/// The index of the type of an alternative with this choice index, if there is one.
+fn place_among(alternatives: &[Alternative], index: usize) -> Option<usize>
+    ensures { result ≡ option_map (λ a. a.place) (slice_get alternatives.now index) }
+{
+    if index >= alternatives.len() {
+        return None;
+    }
+    Some(alternatives[index].place)
+}
+
+/// Whether values without parts are all of the type at an index.
+fn are_scalars_at(nodes: &[TypeNode], place: usize, events: &[Event]) -> bool
+    ensures { Decides (λ n. are_all (λ v. is_of (type_at nodes.now n place) v) (values_of events.now)) result }
+{
+    for event in events {
+        if !is_scalar_at(nodes, place, event) {
+            return false;
+        }
+    }
+    true
+}
+
+/// Whether a value without parts, if there is one, is of the type at an index.
+fn is_element_at(nodes: &[TypeNode], place: usize, element: &Option<Event>) -> bool
+    ensures { Decides (λ n. are_all (λ v. is_of (type_at nodes.now n place) v) (values_of (list_of element.now)))
+        result }
+{
+    match element {
+        None => true,
+        Some(event) => is_scalar_at(nodes, place, event),
+    }
+}
+
+/// Whether a value without parts is of the type at an index.
+fn is_scalar_at(nodes: &[TypeNode], place: usize, event: &Event) -> bool
+    ensures { Decides (λ n. is_of (type_at nodes.now n place) (scalar_of event.now)) result }
+{
+    match nodes.get(place) {
+        None => true,
+        Some(node) => is_scalar_of(node, event),
     }
 }
 
@@ -105,6 +248,10 @@ fn is_scalar_of(node: &TypeNode, event: &Event) -> bool
         },
         Event::Octets(octets) => match node {
             TypeNode::OctetString(sizes) => are_octets(*sizes, octets.as_slice()),
+            _ => false,
+        },
+        Event::Text(octets) => match node {
+            TypeNode::CharacterString(table) => is_text(table, octets.as_slice()),
             _ => false,
         },
         Event::Arcs(arcs) => match node {
@@ -143,6 +290,53 @@ fn are_octets(sizes: Sizes, octets: &[u8]) -> bool
     ensures { result ≡ (list_all is_octet octets.now && is_size_of sizes (length octets.now)) }
 {
     is_size(sizes, octets.len())
+}
+
+/// Whether characters are those of a restricted character string (X.680 41 and 51.5).
+fn is_text(table: &StringTable, characters: &[u8]) -> bool
+    ensures { result ≡ is_text_of table.now characters.now }
+{
+    may_hold(table.kind, characters)
+        && (is_of_octets(table.kind) || is_size(table.sizes, characters.len()))
+}
+
+/// Whether a restricted character string is represented by its octets, so that its length is no size.
+fn is_of_octets(kind: StringKind) -> bool
+    ensures { result ≡ is_of_octets (kind_of kind) }
+{
+    matches!(
+        kind,
+        StringKind::General | StringKind::Graphic | StringKind::Teletex | StringKind::Utf8
+    )
+}
+
+/// Whether a string of a kind may hold these characters (X.680 41).
+fn may_hold(kind: StringKind, characters: &[u8]) -> bool
+    ensures { result ≡ may_hold (kind_of kind) characters.now }
+{
+    match kind {
+        StringKind::Numeric => are_permitted::<Numeric>(characters),
+        StringKind::Printable => are_permitted::<Printable>(characters),
+        StringKind::Visible => are_permitted::<Visible>(characters),
+        StringKind::Ia5 => are_permitted::<Ia5>(characters),
+        StringKind::Bmp => true,
+        StringKind::General => are_permitted::<General>(characters),
+        StringKind::Graphic => are_permitted::<Graphic>(characters),
+        StringKind::Teletex => are_permitted::<Teletex>(characters),
+        StringKind::Utf8 => text_of(characters).is_some(),
+    }
+}
+
+/// Whether a kind permits each of these characters.
+fn are_permitted<K: CharacterKind>(characters: &[u8]) -> bool
+    ensures { result ≡ permits_all K.kind characters.now }
+{
+    for character in characters {
+        if !K::permits(u32::from(*character)) {
+            return false;
+        }
+    }
+    true
 }
 
 /// Whether a string of this length is admitted (X.680 51.5).

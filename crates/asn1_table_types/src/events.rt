@@ -1,4 +1,5 @@
-//! Values without parts, of which a default is one.
+//! Values that a component may have as its default.
+use asn1_schema_tags::Chosen;
 use asn1_values_bit_strings::BitString;
 use asn1_values_identifiers::ObjectIdentifier;
 use asn1_values_integers::Integer;
@@ -18,6 +19,23 @@ pub enum Event {
     Bits(BitString),
     /// The octets of an OCTET STRING (X.680 23).
     Octets(Vec<u8>),
+    /// The characters of a restricted character string (X.680 41), by their numbers; for a UTF8String its octets. So a
+    /// character above 255, which only a BMPString has, cannot be given.
+    Text(Vec<u8>),
     /// The arcs of an OBJECT IDENTIFIER (X.680 32).
     Arcs(ObjectIdentifier),
+}
+
+/// The value that is meant where a component with DEFAULT is absent (X.680 25). That of a SEQUENCE or SET, a SET OF of
+/// several elements, and a list or CHOICE of values with parts cannot be given.
+#[derive(Drop)]
+pub enum DefaultValue {
+    /// A value without parts.
+    Simple(Event),
+    /// A SEQUENCE OF (X.680 26), by its elements.
+    SequenceOf(Vec<Event>),
+    /// A SET OF (X.680 28), by its element, if it has one.
+    SetOf(Option<Event>),
+    /// A CHOICE (X.680 29), by the chosen alternative and its value.
+    Choice(Chosen, Event),
 }

@@ -14,7 +14,7 @@ mod nodes;
 mod tables;
 mod tags;
 
-pub use events::Event;
+pub use events::{DefaultValue, Event};
 pub use faults::{Flaw, TableError};
 pub use nodes::{
     Alternative, AlternativeTable, CharacterTable, Component, ComponentTable, ItemTable,

@@ -1,6 +1,6 @@
 //! The types of a table as an author writes them. A type names another by its index in the table, counted from 0. At a
 //! place outside the table is a type without values, as below the levels to which a recursive type is unfolded.
-use crate::Event;
+use crate::DefaultValue;
 use asn1_schema_constraints::{Bounded, Sizes};
 use asn1_schema_tags::Tag;
 
@@ -130,9 +130,8 @@ pub enum Presence {
     Required,
     /// OPTIONAL.
     Optional,
-    /// DEFAULT, with the value that is meant where it is absent: exactly one event. So the default of a character
-    /// string, or of a type with parts, cannot be given.
-    Default(Vec<Event>),
+    /// DEFAULT, with the value that is meant where it is absent.
+    Default(DefaultValue),
 }
 
 /// The alternatives of a CHOICE (X.680 29).

@@ -1,7 +1,7 @@
 -- Choices of a table: their beginnings, and their turns.
-use Rattle.std.proofs.Common.{◌≡◌, ◌∙◌, refl, sym, ap, subst, ℕ, zero, suc, ◌+◌, ◌<◌, Bool, true, false, cond, List, [], ◌∷◌, ◌++◌, Option, Some, None, option_map, slice_get, arith}
+use Rattle.std.proofs.Common.{◌≡◌, ◌∙◌, refl, sym, ap, subst, ℕ, zero, suc, ◌+◌, ◌<◌, Bool, true, false, cond, List, [], ◌∷◌, ◌++◌, Option, Some, option_map, slice_get, arith}
 use Rattle.asn1_model.specs.Lawful.{alternative_tags}
-use Rattle.asn1_model.specs.Schema.{Schema, choice, Tag, Alternatives}
+use Rattle.asn1_model.specs.Schema.{Schema, Tag, Alternatives}
 use Rattle.asn1_schema_errors.specs.declared.DecodeError.{DecodeError}
 use Rattle.asn1_schema_laws.specs.Records.{Record, choice_begins, ends, asks_choice}
 use Rattle.asn1_schema_laws.specs.Presents.{Fits}

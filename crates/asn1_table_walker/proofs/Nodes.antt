@@ -4,7 +4,7 @@ use Rattle.std.proofs.Common.{arith}
 use Rattle.std.proofs.lemmas.Bool.{and_parts}
 use Rattle.std.specs.Prelude.{◌&&◌, ◌||◌, not}
 use Rattle.std.specs.Result.{IfErr, IfOk}
-use Rattle.asn1_model.specs.Schema.{Schema, Presence, Components, no_component}
+use Rattle.asn1_model.specs.Schema.{Schema, Presence, Components}
 use Rattle.asn1_model.specs.Lawful.{is_lawful, are_lawful, is_group, is_optional, are_groups_in_place, has_typed_default, are_no_components, are_distinct, tag_same, component_tags}
 use Rattle.asn1_model.specs.Lawful.{is_sequence_table, are_tags_of, are_ascending, tag_less, component_places}
 use Rattle.asn1_model.specs.Normal.{is_required}

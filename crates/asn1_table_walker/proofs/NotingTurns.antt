@@ -1,5 +1,5 @@
 -- What is noted of a component of a table that was read: its turns.
-use Rattle.std.proofs.Common.{◌≡◌, ◌∙◌, refl, sym, ap, subst, ℕ, zero, suc, ◌+◌, ◌<◌, ◌≤◌, Bool, true, false, cond, List, [], ◌∷◌, ◌++◌, length, drop, get_or, Option, Some, None, slice_get}
+use Rattle.std.proofs.Common.{◌≡◌, ◌∙◌, refl, sym, ap, subst, ℕ, zero, suc, ◌+◌, ◌<◌, ◌≤◌, Bool, true, false, cond, List, [], ◌∷◌, ◌++◌, length, drop, get_or, Some, slice_get}
 use Rattle.std.proofs.Math.ListN.{take}
 use Rattle.asn1_model.specs.Value.{Value}
 use Rattle.asn1_model.specs.Schema.{Schema, Presence}

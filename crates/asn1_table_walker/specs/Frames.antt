@@ -1,5 +1,5 @@
 -- What the frames of a walk over a table mean.
-use Rattle.std.specs.Prelude.{ℕ, ◌+◌, cond, List, [], ◌∷◌, drop, Option, Some, None, slice_get}
+use Rattle.std.specs.Prelude.{ℕ, ◌+◌, Bool, true, false, cond, List, [], ◌∷◌, drop, Option, Some, None, slice_get}
 use Rattle.asn1_model.specs.Normal.{is_required}
 use Rattle.asn1_schema_constraints.specs.Bounds.{members_of}
 use Rattle.asn1_schema_constraints.specs.declared.bounds.Bounded.TheVariants.{None as Unbounded}
@@ -10,6 +10,8 @@ use Rattle.asn1_table_tape.specs.Terms.{Lists, members_in, lists_in}
 use Rattle.asn1_table_types.specs.Meaning.{components_of, presence_of, type_at}
 use Rattle.asn1_table_types.specs.declared.nodes.Component.{Component}
 use Rattle.asn1_table_types.specs.declared.nodes.TypeNode.{TypeNode}
+use Rattle.asn1_table_types.specs.declared.nodes.TypeNode.TheVariants.{Boolean, Null, Integer, Enumerated, BitString}
+use Rattle.asn1_table_types.specs.declared.nodes.TypeNode.TheVariants.{OctetString, CharacterString, ObjectIdentifier}
 use Rattle.asn1_table_walker.specs.declared.frames.Frame.{Frame}
 use Rattle.asn1_table_walker.specs.declared.frames.Frame.TheVariants.{Members, Root, Noting, Added, Inside}
 use Rattle.asn1_table_walker.specs.declared.frames.Frame.TheVariants.{Alternative, Closing}
@@ -92,6 +94,18 @@ levels_in (Some f) = 1
 abbrev pub levels_closed : Turn → ℕ
 levels_closed Ended = 1
 levels_closed t = 0
+
+-- Whether a value of a type is one record.
+abbrev pub is_single : TypeNode → Bool
+is_single Boolean = true
+is_single Null = true
+is_single (Integer l) = true
+is_single (Enumerated t) = true
+is_single (BitString z) = true
+is_single (OctetString z) = true
+is_single (CharacterString t) = true
+is_single ObjectIdentifier = true
+is_single t = false
 
 -- Frames, and one more inside of them.
 abbrev pub with_frame : Option Frame → List Frame → List Frame

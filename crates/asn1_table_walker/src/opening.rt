@@ -1,12 +1,12 @@
 //! A value begins.
 #![tactic(auto, using(std::proofs::lemmas::Grind::common_steps))]
 
-ghost use Rattle.std.specs.Prelude.{◌≡◌, ◌+◌, ◌≤◌, IfOk, IfErr, OnOk, vec_len, ⊤};
-ghost use Rattle.asn1_schema_errors.specs.Calls.{DecoderCall};
-ghost use Rattle.asn1_table_laws.specs.Walks.{NoValue, Opens};
-ghost use Rattle.asn1_table_types.specs.Meaning.{type_at};
+ghost use Rattle.std.specs.Prelude.{◌≡◌, ◌+◌, ◌≤◌, IfOk, IfErr, OnOk, Some, true, slice_get, vec_len, ⊤};
+ghost use Rattle.asn1_schema_errors.specs.Calls.{DecoderCall, SameLevel};
+ghost use Rattle.asn1_table_laws.specs.Walks.{NoValue, Opens, Told};
+ghost use Rattle.asn1_table_types.specs.Meaning.{type_at, type_of};
 ghost use Rattle.asn1_table_tape.specs.Records.{records_of};
-ghost use Rattle.asn1_table_walker.specs.Frames.{pending_in, levels_in};
+ghost use Rattle.asn1_table_walker.specs.Frames.{pending_in, levels_in, is_single};
 
 use crate::choices::begin_choice;
 use crate::frames::Frame;
@@ -43,48 +43,16 @@ pub fn open<D: Decoder>(
 {
     match types.node(place) {
         None => Err(refuse_any(decoder)),
-        Some(TypeNode::Boolean) => {
-            read_flag(decoder, tape)?;
-            Ok(None)
-        }
-        Some(TypeNode::Integer(limits)) => {
-            read_number(alloc, decoder, limits, place, tape)?;
-            Ok(None)
-        }
-        Some(TypeNode::Null) => {
-            read_nil(decoder, tape)?;
-            Ok(None)
-        }
-        Some(TypeNode::Enumerated(table)) => {
-            read_item(decoder, types, table, place, tape)?;
-            Ok(None)
-        }
-        Some(TypeNode::BitString(sizes)) => {
-            read_bits(alloc, decoder, *sizes, place, tape)?;
-            Ok(None)
-        }
-        Some(TypeNode::OctetString(sizes)) => {
-            read_octets(alloc, decoder, *sizes, place, tape)?;
-            Ok(None)
-        }
-        Some(TypeNode::ObjectIdentifier) => {
-            read_arcs(alloc, decoder, tape)?;
-            Ok(None)
-        }
         Some(TypeNode::SequenceOf(sizes, _members)) => {
             let frame = begin_list(decoder, *sizes, place, tape)?;
             Ok(Some(frame))
         }
-        Some(TypeNode::Sequence(table)) => {
-            let frame = begin_sequence(decoder, table, place, tape)?;
-            Ok(Some(frame))
-        }
-        Some(TypeNode::CharacterString(table)) => {
-            read_text(alloc, decoder, table, place, tape)?;
-            Ok(None)
-        }
         Some(TypeNode::SetOf(sizes, _members)) => {
             let frame = begin_bag(decoder, *sizes, place, tape)?;
+            Ok(Some(frame))
+        }
+        Some(TypeNode::Sequence(table)) => {
+            let frame = begin_sequence(decoder, table, place, tape)?;
             Ok(Some(frame))
         }
         Some(TypeNode::Set(table)) => {
@@ -99,6 +67,43 @@ pub fn open<D: Decoder>(
             let frame = begin_choice(decoder, types, table, place, tape)?;
             Ok(Some(frame))
         }
+        Some(node) => {
+            read_single(alloc, decoder, types, node, place, tape)?;
+            Ok(None)
+        }
+    }
+}
+
+// Reads a value of one record; its type is at an index.
+#[inline(always)]
+fn read_single<D: Decoder>(
+    alloc: Global,
+    decoder: &mut D,
+    types: &Types,
+    node: &TypeNode,
+    place: usize,
+    tape: &mut Vec<Event>,
+) -> Result<(), DecodeError>
+    requires placed { slice_get types.now.nodes.items place ≡ Some node.now }
+    requires single { is_single node.now ≡ true }
+    ensures ok { OnOk result (Told D.step (type_of types.now.nodes.items (D.levels decoder.old) (Some node.now))
+        decoder.old decoder.new (records_of types.now.nodes.items tape.old.items)
+        (records_of types.now.nodes.items tape.new.items)) }
+    ensures only { IfErr result (NoValue D.step D.too_few
+        (type_of types.now.nodes.items (D.levels decoder.old) (Some node.now)) decoder.old decoder.new) }
+    ensures going { OnOk result (D.has_failed decoder.new → ⊥) }
+    ensures call { DecoderCall D.has_failed (SameLevel D.levels) decoder.old decoder.new result }
+{
+    match node {
+        TypeNode::Boolean => read_flag(decoder, tape),
+        TypeNode::Null => read_nil(decoder, tape),
+        TypeNode::Integer(limits) => read_number(alloc, decoder, limits, place, tape),
+        TypeNode::Enumerated(table) => read_item(decoder, types, table, place, tape),
+        TypeNode::BitString(sizes) => read_bits(alloc, decoder, *sizes, place, tape),
+        TypeNode::OctetString(sizes) => read_octets(alloc, decoder, *sizes, place, tape),
+        TypeNode::CharacterString(table) => read_text(alloc, decoder, table, place, tape),
+        TypeNode::ObjectIdentifier => read_arcs(alloc, decoder, tape),
+        _ => Err(refuse_any(decoder)),
     }
 }
 

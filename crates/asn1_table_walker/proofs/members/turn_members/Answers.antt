@@ -1,4 +1,4 @@
-use Rattle.std.proofs.Common.{◌∙◌, sym, ap, arith, Some}
+use Rattle.std.proofs.Common.{◌∙◌, sym, arith}
 use Rattle.asn1_table_tape.specs.Records.{records_of}
 use Rattle.asn1_schema_laws.proofs.Joined.{raised}
 use Rattle.asn1_table_walker.proofs.ListTurns.{further_refused, member_refused, close_refused, member_comes, list_ends}

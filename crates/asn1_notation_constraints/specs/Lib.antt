@@ -1,0 +1,3 @@
+pub mod Alphabets
+pub mod Bounds
+pub mod Constraints

@@ -1,0 +1,4 @@
+pub mod EndLaws
+pub mod MeetLaws
+pub mod JoinLaws
+pub mod HullLaws

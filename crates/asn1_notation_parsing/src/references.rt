@@ -1,0 +1,87 @@
+//! Names of what is defined elsewhere (X.680 14.1, X.683 9).
+use crate::parser::Parser;
+use crate::refusals::Parsed;
+use asn1_notation_tokens::{ItemKind, Symbol};
+use asn1_notation_tree::{ActualParameter, Expected, Name, Reference};
+
+/// The module before a dot, if the next items are one, a dot and an item of this kind.
+pub fn read_qualifier(parser: &mut Parser<'_>, kind: ItemKind) -> Parsed<Option<Name>> {
+    let is_qualified = parser.peek() == ItemKind::Reference
+        && parser.peek_after(1) == ItemKind::Symbol(Symbol::Dot)
+        && parser.peek_after(2) == kind;
+    if !is_qualified {
+        return Ok(None);
+    }
+    let module = parser.reference()?;
+    parser.advance();
+    Ok(Some(module))
+}
+
+/// The actual parameters at the next item, if there are any, as braces.
+pub fn skip_parameters(parser: &mut Parser<'_>) -> Parsed<Vec<ActualParameter>> {
+    let mut parameters = Vec::new(parser.alloc);
+    if parser.sees(Symbol::LeftBrace) {
+        parameters.push(ActualParameter::Braces(parser.next))?;
+        parser.skip_braces()?;
+    }
+    Ok(parameters)
+}
+
+/// The name of a value, after its module if that is given.
+pub fn read_value_reference(parser: &mut Parser<'_>) -> Parsed<Reference> {
+    let module = read_qualifier(parser, ItemKind::Identifier)?;
+    let name = match parser.peek() {
+        ItemKind::Identifier => parser.identifier()?,
+        _ => return Err(parser.expected(Expected::Value)),
+    };
+    let parameters = skip_parameters(parser)?;
+    Ok(Reference {
+        module,
+        name,
+        parameters,
+    })
+}
+
+/// The name of a type in a constraint, after its module if that is given.
+pub fn read_contained_reference(parser: &mut Parser<'_>) -> Parsed<Reference> {
+    let module = read_qualifier(parser, ItemKind::Reference)?;
+    let name = parser.reference()?;
+    let parameters = skip_parameters(parser)?;
+    Ok(Reference {
+        module,
+        name,
+        parameters,
+    })
+}
+
+/// The name of an information object class, after its module if that is given (X.681 9).
+pub fn read_class(parser: &mut Parser<'_>) -> Parsed<Reference> {
+    let module = read_qualifier(parser, ItemKind::Reference)?;
+    let name = parser.reference()?;
+    Ok(Reference {
+        module,
+        name,
+        parameters: Vec::new(parser.alloc),
+    })
+}
+
+/// Goes past a type, up to the colon after it.
+pub fn skip_type(parser: &mut Parser<'_>) {
+    let mut open: usize = 0;
+    for _ in 0..parser.left() {
+        match parser.peek() {
+            ItemKind::Symbol(Symbol::LeftBrace | Symbol::LeftParenthesis) => {
+                open = open.saturating_add(1);
+            }
+            ItemKind::Symbol(Symbol::RightBrace | Symbol::RightParenthesis) if open == 0 => return,
+            ItemKind::Symbol(Symbol::RightBrace | Symbol::RightParenthesis) => {
+                open = open.saturating_sub(1);
+            }
+            ItemKind::Symbol(Symbol::Colon | Symbol::Comma | Symbol::Assignment) if open == 0 => {
+                return;
+            }
+            _ => {}
+        }
+        parser.advance();
+    }
+}

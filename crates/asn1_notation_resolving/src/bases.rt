@@ -1,0 +1,136 @@
+//! What a type is after its references and tags.
+use crate::errors::{NotationError, Problem};
+use crate::scopes::{Files, Scope, Symbol, TypeUse};
+use asn1_notation_tree::{AssignmentKind, ConstraintIndex, Reference, Tagging, TypeKind, TypeTerm};
+use std::alloc::Global;
+
+/// How many references and tags are followed from a type to its kind.
+const MOST_STEPS: usize = 64;
+
+/// A constraint, and the module in which it is written.
+#[derive(Clone, Copy)]
+pub struct ConstraintUse {
+    pub scope: Scope,
+    pub index: ConstraintIndex,
+}
+
+/// A type without its references and tags.
+#[derive(Drop)]
+pub struct Base<'a> {
+    /// Where its kind is written.
+    pub at: TypeUse,
+    /// Its term.
+    pub term: &'a TypeTerm,
+    /// The assignment of the type, if it is the whole of one.
+    pub symbol: Option<Symbol>,
+    /// The outermost tag, if there is one, and the module in which it is written.
+    pub tag: Option<(Scope, &'a Tagging)>,
+    /// All constraints, the last one that applies first (X.680 50.8).
+    pub constraints: Vec<ConstraintUse>,
+    /// How many of them are written elsewhere than at the kind itself.
+    pub outer: usize,
+}
+
+impl Base<'_> {
+    /// An error where the kind is written.
+    pub fn error(&self, problem: Problem) -> NotationError {
+        self.at.scope.error(self.term.place, problem)
+    }
+}
+
+/// The type that a reference stands for.
+pub fn referenced(
+    files: Files<'_, '_>,
+    scope: Scope,
+    reference: &Reference,
+) -> Result<(Symbol, TypeUse), NotationError> {
+    let place = reference.name.place;
+    if !reference.parameters.is_empty() {
+        return Err(scope.error(place, Problem::Parameterised));
+    }
+    let Some(symbol) = files.find(scope, reference) else {
+        return Err(scope.error(place, Problem::UnknownType));
+    };
+    let at = type_of_symbol(files, symbol).map_err(|problem| scope.error(place, problem))?;
+    Ok((symbol, at))
+}
+
+/// The type that an assignment defines.
+pub fn type_of_symbol(files: Files<'_, '_>, symbol: Symbol) -> Result<TypeUse, Problem> {
+    let Some(assignment) = files.assignment(symbol) else {
+        return Err(Problem::UnknownType);
+    };
+    if !assignment.parameters.is_empty() {
+        return Err(Problem::Parameterised);
+    }
+    match &assignment.kind {
+        AssignmentKind::Type(index) => Ok(TypeUse {
+            scope: symbol.scope,
+            index: *index,
+        }),
+        AssignmentKind::ValueSet(index, _) => Ok(TypeUse {
+            scope: symbol.scope,
+            index: *index,
+        }),
+        _ => Err(Problem::UnknownType),
+    }
+}
+
+/// Adds the constraints of a term, the last one first.
+fn add_constraints(
+    all: &mut Vec<ConstraintUse>,
+    scope: Scope,
+    term: &TypeTerm,
+) -> Result<(), NotationError> {
+    let count = term.constraints.len();
+    for back in 0..count {
+        all.push(ConstraintUse {
+            scope,
+            index: term.constraints[count - 1 - back],
+        })?;
+    }
+    Ok(())
+}
+
+/// A type without its references and tags (X.680 14.1 and 31).
+pub fn base_of<'a>(
+    alloc: Global,
+    files: Files<'a, '_>,
+    start: TypeUse,
+) -> Result<Base<'a>, NotationError> {
+    let mut at = start;
+    let mut symbol = None;
+    let mut tag = None;
+    let mut constraints = Vec::new(alloc);
+    for _ in 0..MOST_STEPS {
+        let term = files.type_term(at)?;
+        let outer = constraints.len();
+        add_constraints(&mut constraints, at.scope, term)?;
+        match &term.kind {
+            TypeKind::Tagged(tagging, inner) => {
+                if tag.is_none() {
+                    tag = Some((at.scope, tagging));
+                }
+                symbol = None;
+                at.index = *inner;
+            }
+            TypeKind::Reference(reference) => {
+                let (found, next) = referenced(files, at.scope, reference)?;
+                symbol = Some(found);
+                at = next;
+            }
+            _ => {
+                return Ok(Base {
+                    at,
+                    term,
+                    symbol,
+                    tag,
+                    constraints,
+                    outer,
+                });
+            }
+        }
+    }
+    let place = files.type_term(start)?.place;
+    Err(start.scope.error(place, Problem::Circular))
+}

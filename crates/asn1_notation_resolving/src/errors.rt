@@ -1,0 +1,91 @@
+//! Why a text has no table.
+ghost use Rattle.std.specs.Prelude.{◌≡◌};
+
+use std::alloc::{AllocError, AllocFailed};
+use thiserror::Error;
+
+/// What is wrong, or not supported.
+#[derive(Clone, Copy, Debug, PartialEq, Eq, Hash, Drop, Error)]
+pub enum Problem {
+    /// No type has this name.
+    #[error("no such type")]
+    UnknownType,
+    /// No value has this name.
+    #[error("no such value")]
+    UnknownValue,
+    /// A name leads to itself, or to another one more than 64 times.
+    #[error("the definition leads back to itself")]
+    Circular,
+    /// The type is, or contains, more levels than are followed.
+    #[error("nested too deep")]
+    TooDeep,
+    /// A parameterised type (X.683).
+    #[error("parameterised types are not supported")]
+    Parameterised,
+    /// A type that tables do not hold.
+    #[error("this type is not supported")]
+    UnsupportedType,
+    /// Named bits without a fixed size (X.680 22.7).
+    #[error("a BIT STRING with named bits must have a fixed size")]
+    NamedBits,
+    /// A CHOICE without a tag as an alternative of a CHOICE.
+    #[error("an untagged CHOICE as an alternative is not supported")]
+    UntaggedAlternative,
+    /// COMPONENTS OF a type that is no SEQUENCE or SET (X.680 25.5).
+    #[error("COMPONENTS OF a type that is not of this kind")]
+    ComponentsOfOther,
+    /// A value of another type.
+    #[error("a value of another type")]
+    ValueOfOtherType,
+    /// A default that tables do not hold.
+    #[error("a default of this type is not supported")]
+    UnsupportedDefault,
+    /// A tag's number is negative, or above 2^32 - 1.
+    #[error("the number of a tag is out of range")]
+    TagOutOfRange,
+    /// Two components or alternatives have one tag (X.680 25.6, 27.3 and 29.4).
+    #[error("another component or alternative has this tag")]
+    TagTwice,
+    /// A constraint allows no value.
+    #[error("the constraint allows no value")]
+    EmptyConstraint,
+    /// A size is above 2^64 - 1.
+    #[error("the size is out of range")]
+    SizeOutOfRange,
+    /// An item's number is out of range, or two items have one number (X.680 20.3).
+    #[error("the number of an item is out of range or occurs twice")]
+    ItemNumber,
+    /// A constraint in a form that is not supported.
+    #[error("this constraint is not supported")]
+    UnsupportedConstraint,
+    /// Memory ran out.
+    #[error("out of memory")]
+    OutOfMemory,
+}
+
+/// What is wrong with a text, and where.
+#[derive(Clone, Copy, Debug, PartialEq, Eq, Hash, Drop)]
+pub struct NotationError {
+    /// The index of the file.
+    pub file: usize,
+    /// The index of the lexical item in it.
+    pub place: usize,
+    /// What is wrong.
+    pub problem: Problem,
+}
+
+impl From<AllocError> for NotationError {
+    fn from(_refused: AllocError) -> Self {
+        NotationError {
+            file: 0,
+            place: 0,
+            problem: Problem::OutOfMemory,
+        }
+    }
+}
+
+impl<T: Drop> From<AllocFailed<T>> for NotationError {
+    fn from(refused: AllocFailed<T>) -> Self {
+        NotationError::from(AllocError::from(refused))
+    }
+}

@@ -1,0 +1,19 @@
+//! What the names, values, tags and constraints of modules in the notation of X.680 stand for.
+#![tactic(auto, using(std::proofs::lemmas::Grind::common_steps))]
+
+mod bases;
+mod errors;
+mod items;
+mod limits;
+mod numbers;
+mod scopes;
+mod sets;
+mod tags;
+
+pub use bases::{Base, ConstraintUse, base_of, type_of_symbol};
+pub use errors::{NotationError, Problem};
+pub use items::{Numbered, Numbers, numbers_of};
+pub use limits::{alphabet, number_limits, sizes};
+pub use numbers::{ValueUse, integer_of, number_of, settled};
+pub use scopes::{Files, Index, Scope, Symbol, TypeUse};
+pub use tags::{is_written_tagged, tagged_base};

@@ -1,0 +1,114 @@
+//! Value constraints, sizes and permitted alphabets, as tables have them.
+use crate::bases::Base;
+use crate::errors::{NotationError, Problem};
+use crate::scopes::Files;
+use crate::sets::{Aspect, visible};
+use asn1_notation_constraints::{BoundsError, size_limits};
+use asn1_notation_intervals::{Interval, NumberSet};
+use asn1_schema_constraints::{Bounded, Sizes};
+use asn1_table_types::{CharacterTable, NumberLimits, StringKind};
+use std::alloc::Global;
+
+/// What is wrong with bounds.
+fn problem_of(error: BoundsError) -> Problem {
+    match error {
+        BoundsError::Empty => Problem::EmptyConstraint,
+        BoundsError::TooLarge => Problem::SizeOutOfRange,
+        BoundsError::OutOfMemory => Problem::OutOfMemory,
+    }
+}
+
+/// The value constraint of an INTEGER (X.691 10.3), if it has one.
+pub fn number_limits(
+    alloc: Global,
+    files: Files<'_, '_>,
+    base: &Base<'_>,
+) -> Result<Option<NumberLimits>, NotationError> {
+    let Some(visible) = visible(alloc, files, base, Aspect::Numbers)? else {
+        return Ok(None);
+    };
+    match asn1_notation_constraints::number_limits(&visible) {
+        Ok(None) => Ok(None),
+        Ok(Some(limits)) => Ok(Some(NumberLimits {
+            root: limits.root,
+            is_extensible: limits.is_extensible,
+        })),
+        Err(error) => Err(base.error(problem_of(error))),
+    }
+}
+
+/// The sizes of a string or list (X.691 10.3).
+pub fn sizes(alloc: Global, files: Files<'_, '_>, base: &Base<'_>) -> Result<Sizes, NotationError> {
+    let Some(visible) = visible(alloc, files, base, Aspect::Sizes)? else {
+        return Ok(Sizes {
+            root: Bounded::None,
+            is_extensible: false,
+        });
+    };
+    size_limits(alloc, &visible).map_err(|error| base.error(problem_of(error)))
+}
+
+/// The characters of a kind of string as intervals, if its permitted alphabet counts in PER (X.691 30.1).
+fn characters_of(kind: StringKind) -> Option<&'static [(u32, u32)]> {
+    match kind {
+        StringKind::Numeric => Some(&[(32, 32), (48, 57)]),
+        StringKind::Printable => {
+            Some(&[
+                (32, 32),
+                (39, 41),
+                (43, 58),
+                (61, 61),
+                (63, 63),
+                (65, 90),
+                (97, 122),
+            ])
+        }
+        StringKind::Visible => Some(&[(32, 126)]),
+        StringKind::Ia5 => Some(&[(0, 127)]),
+        StringKind::Bmp => Some(&[(0, 65535)]),
+        StringKind::General | StringKind::Graphic | StringKind::Teletex | StringKind::Utf8 => None,
+    }
+}
+
+/// The permitted alphabet of a character string (X.680 51.7), if it has one that counts: its characters that are also
+/// characters of the kind.
+pub fn alphabet(
+    alloc: Global,
+    files: Files<'_, '_>,
+    base: &Base<'_>,
+    kind: StringKind,
+) -> Result<Option<CharacterTable>, NotationError> {
+    let visible = visible(alloc, files, base, Aspect::Alphabet)?;
+    let (Some(visible), Some(own)) = (visible, characters_of(kind)) else {
+        return Ok(None);
+    };
+    let mut intervals = Vec::new(alloc);
+    for (low, high) in own {
+        intervals.push(Interval {
+            low: Some(i128::from(*low)),
+            high: Some(i128::from(*high)),
+        })?;
+    }
+    let own = NumberSet::of(alloc, intervals.as_slice())?;
+    let set = visible.numbers.intersection(alloc, &own)?;
+    if set.hull().is_none() {
+        return Err(base.error(Problem::EmptyConstraint));
+    }
+    let mut characters = Vec::new(alloc);
+    for interval in set.intervals() {
+        if let (Some(low), Some(high)) = (character_in(interval.low), character_in(interval.high)) {
+            for character in low..=high {
+                characters.push(character)?;
+            }
+        }
+    }
+    Ok(Some(CharacterTable {
+        characters,
+        is_extensible: visible.is_extensible,
+    }))
+}
+
+/// The number of a character.
+fn character_in(end: Option<i128>) -> Option<u32> {
+    u32::try_from(end?).ok()
+}

@@ -1,0 +1,103 @@
+//! Numbers, by themselves or by name.
+use crate::errors::{NotationError, Problem};
+use crate::scopes::{Files, Scope, Symbol};
+use asn1_notation_tree::{AssignmentKind, NamedNumber, Reference, ValueIndex, ValueKind};
+
+/// How many references are followed from a value to its notation.
+const MOST_STEPS: usize = 64;
+
+/// A value, and the module in which it is written.
+#[derive(Clone, Copy)]
+pub struct ValueUse {
+    pub scope: Scope,
+    pub index: ValueIndex,
+}
+
+impl ValueUse {
+    /// An error at the value.
+    pub fn error(self, files: Files<'_, '_>, problem: Problem) -> NotationError {
+        let place = match files.value_term(self.scope, self.index) {
+            Ok(term) => term.place,
+            Err(_) => 0,
+        };
+        self.scope.error(place, problem)
+    }
+}
+
+/// The named number of an INTEGER or BIT STRING, or of items with given numbers, if it has this name.
+pub fn named<'a>(numbers: &'a [NamedNumber], name: &str) -> Option<&'a NamedNumber> {
+    for number in numbers {
+        if number.name.text.as_str() == name {
+            return Some(number);
+        }
+    }
+    None
+}
+
+/// The value that a reference stands for (X.680 17.5).
+fn referenced(
+    files: Files<'_, '_>,
+    scope: Scope,
+    reference: &Reference,
+) -> Result<ValueUse, NotationError> {
+    let place = reference.name.place;
+    let Some(symbol) = files.find(scope, reference) else {
+        return Err(scope.error(place, Problem::UnknownValue));
+    };
+    value_of_symbol(files, symbol).ok_or(scope.error(place, Problem::UnknownValue))
+}
+
+/// The value that an assignment defines.
+fn value_of_symbol(files: Files<'_, '_>, symbol: Symbol) -> Option<ValueUse> {
+    match &files.assignment(symbol)?.kind {
+        AssignmentKind::Value(_, index) => Some(ValueUse {
+            scope: symbol.scope,
+            index: *index,
+        }),
+        _ => None,
+    }
+}
+
+/// A value after its references (X.680 17.5).
+pub fn settled(files: Files<'_, '_>, start: ValueUse) -> Result<ValueUse, NotationError> {
+    let mut at = start;
+    for _ in 0..MOST_STEPS {
+        match &files.value_term(at.scope, at.index)?.kind {
+            ValueKind::Reference(reference) => at = referenced(files, at.scope, reference)?,
+            _ => return Ok(at),
+        }
+    }
+    Err(start.error(files, Problem::Circular))
+}
+
+/// A number, by itself or by the name of a value (X.680 19.9).
+pub fn number_of(files: Files<'_, '_>, start: ValueUse) -> Result<i128, NotationError> {
+    let at = settled(files, start)?;
+    match files.value_term(at.scope, at.index)?.kind {
+        ValueKind::Number(number) => Ok(number),
+        _ => Err(start.error(files, Problem::ValueOfOtherType)),
+    }
+}
+
+/// A number of an INTEGER, by itself, by one of its own names, or by the name of a value (X.680 19.9 and 19.10). The
+/// names are those of a module.
+pub fn integer_of(
+    files: Files<'_, '_>,
+    names: Scope,
+    numbers: &[NamedNumber],
+    value: ValueUse,
+) -> Result<i128, NotationError> {
+    if let ValueKind::Reference(reference) = &files.value_term(value.scope, value.index)?.kind {
+        if let Some(number) = named(numbers, reference.name.text.as_str()) {
+            let index = number.number;
+            return number_of(
+                files,
+                ValueUse {
+                    scope: names,
+                    index,
+                },
+            );
+        }
+    }
+    number_of(files, value)
+}

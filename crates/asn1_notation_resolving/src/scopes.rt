@@ -1,0 +1,234 @@
+//! Modules, and what their names stand for (X.680 13).
+use crate::errors::{NotationError, Problem};
+use asn1_notation_tree::{
+    Assignment, ConstraintIndex, ConstraintTerm, Module, Reference, Syntax, TypeIndex, TypeTerm,
+    ValueIndex, ValueTerm,
+};
+use std::alloc::{AllocError, Global};
+
+/// A module: the index of its file, and its index in that file.
+#[derive(Clone, Copy, Debug, PartialEq, Eq, PartialOrd, Ord)]
+pub struct Scope {
+    pub file: usize,
+    pub module: usize,
+}
+
+/// The first module of the first file.
+const FIRST: Scope = Scope { file: 0, module: 0 };
+
+impl Scope {
+    /// An error at a lexical item of the module's file.
+    pub fn error(self, place: usize, problem: Problem) -> NotationError {
+        NotationError {
+            file: self.file,
+            place,
+            problem,
+        }
+    }
+}
+
+/// An assignment: its module, and its index there.
+#[derive(Clone, Copy)]
+pub struct Symbol {
+    pub scope: Scope,
+    pub index: usize,
+}
+
+/// A type as it is written in a module.
+#[derive(Clone, Copy)]
+pub struct TypeUse {
+    pub scope: Scope,
+    pub index: TypeIndex,
+}
+
+/// A name, the module in which it is, and what it stands for there.
+#[derive(Clone, Copy)]
+struct Entry<'a> {
+    name: &'a str,
+    scope: Scope,
+    index: usize,
+}
+
+/// All names of some files, in ascending order.
+#[derive(Drop)]
+pub struct Index<'a> {
+    /// Those of the modules.
+    modules: Vec<Entry<'a>>,
+    /// Those that modules define, each with the index of its assignment.
+    defined: Vec<Entry<'a>>,
+    /// Those that modules import, each with the index of its import.
+    imported: Vec<Entry<'a>>,
+}
+
+impl<'a> Index<'a> {
+    /// The names of files.
+    pub fn new(alloc: Global, files: &'a [Syntax]) -> Result<Index<'a>, AllocError> {
+        let mut all = Index {
+            modules: Vec::new(alloc),
+            defined: Vec::new(alloc),
+            imported: Vec::new(alloc),
+        };
+        for file in 0..files.len() {
+            let modules = files[file].modules.as_slice();
+            for module in 0..modules.len() {
+                all.add(Scope { file, module }, &modules[module])?;
+            }
+        }
+        all.modules.sort_by_key(|entry| (entry.name, entry.scope))?;
+        all.defined.sort_by_key(|entry| (entry.name, entry.scope))?;
+        all.imported.sort_by_key(|entry| (entry.name, entry.scope))?;
+        Ok(all)
+    }
+
+    /// Adds the names of a module.
+    fn add(&mut self, scope: Scope, module: &'a Module) -> Result<(), AllocError> {
+        self.modules.push(Entry {
+            name: module.name.text.as_str(),
+            scope,
+            index: 0,
+        })?;
+        for index in 0..module.assignments.len() {
+            self.defined.push(Entry {
+                name: module.assignments[index].name.text.as_str(),
+                scope,
+                index,
+            })?;
+        }
+        for index in 0..module.imports.len() {
+            for symbol in &module.imports[index].symbols {
+                self.imported.push(Entry {
+                    name: symbol.text.as_str(),
+                    scope,
+                    index,
+                })?;
+            }
+        }
+        Ok(())
+    }
+}
+
+/// The first entry with a name, in a module or a later one.
+fn first_from<'a>(entries: &[Entry<'a>], name: &str, scope: Scope) -> Option<Entry<'a>> {
+    let place = entries.partition_point(|entry| (entry.name, entry.scope) < (name, scope));
+    let entry = *entries.get(place)?;
+    if entry.name == name {
+        Some(entry)
+    } else {
+        None
+    }
+}
+
+/// The entry with a name in a module.
+fn entry_in<'a>(entries: &[Entry<'a>], name: &str, scope: Scope) -> Option<Entry<'a>> {
+    let entry = first_from(entries, name, scope)?;
+    if entry.scope == scope {
+        Some(entry)
+    } else {
+        None
+    }
+}
+
+/// The files of a table, and their names.
+#[derive(Clone, Copy)]
+pub struct Files<'a, 'i> {
+    pub files: &'a [Syntax],
+    pub index: &'i Index<'a>,
+}
+
+impl<'a, 'i> Files<'a, 'i> {
+    /// A module.
+    pub fn module(self, scope: Scope) -> Option<&'a Module> {
+        self.files.get(scope.file)?.modules.get(scope.module)
+    }
+
+    /// An assignment.
+    pub fn assignment(self, symbol: Symbol) -> Option<&'a Assignment> {
+        self.module(symbol.scope)?.assignments.get(symbol.index)
+    }
+
+    /// A type term.
+    pub fn type_term(self, at: TypeUse) -> Result<&'a TypeTerm, NotationError> {
+        let found = match self.files.get(at.scope.file) {
+            Some(file) => file.types.get(at.index),
+            None => None,
+        };
+        found.ok_or(at.scope.error(0, Problem::UnknownType))
+    }
+
+    /// A value term.
+    pub fn value_term(
+        self,
+        scope: Scope,
+        index: ValueIndex,
+    ) -> Result<&'a ValueTerm, NotationError> {
+        let found = match self.files.get(scope.file) {
+            Some(file) => file.values.get(index),
+            None => None,
+        };
+        found.ok_or(scope.error(0, Problem::UnknownValue))
+    }
+
+    /// A constraint term.
+    pub fn constraint_term(
+        self,
+        scope: Scope,
+        index: ConstraintIndex,
+    ) -> Result<&'a ConstraintTerm, NotationError> {
+        let found = match self.files.get(scope.file) {
+            Some(file) => file.constraints.get(index),
+            None => None,
+        };
+        found.ok_or(scope.error(0, Problem::UnsupportedConstraint))
+    }
+
+    /// The first module with a name.
+    pub fn find_module(self, name: &str) -> Option<Scope> {
+        let entry = first_from(self.index.modules.as_slice(), name, FIRST)?;
+        Some(entry.scope)
+    }
+
+    /// The assignment in a module that defines a name.
+    pub fn find_in(self, scope: Scope, name: &str) -> Option<Symbol> {
+        let entry = entry_in(self.index.defined.as_slice(), name, scope)?;
+        Some(Symbol {
+            scope,
+            index: entry.index,
+        })
+    }
+
+    /// The module from which another one imports a name.
+    fn exporter(self, scope: Scope, name: &str) -> Option<Scope> {
+        let entry = entry_in(self.index.imported.as_slice(), name, scope)?;
+        let import = self.module(scope)?.imports.get(entry.index)?;
+        self.find_module(import.module.text.as_str())
+    }
+
+    /// What a reference in a module stands for: an assignment of the module itself, or of one from which it imports the
+    /// name, through at most 64 modules.
+    pub fn find(self, scope: Scope, reference: &Reference) -> Option<Symbol> {
+        let name = reference.name.text.as_str();
+        if let Some(module) = &reference.module {
+            return self.find_in(self.find_module(module.text.as_str())?, name);
+        }
+        let mut scope = scope;
+        for _ in 0..64 {
+            if let Some(found) = self.find_in(scope, name) {
+                return Some(found);
+            }
+            scope = self.exporter(scope, name)?;
+        }
+        None
+    }
+
+    /// The first assignment with a name, of all modules or of the one that is named.
+    pub fn find_type(self, module: Option<&str>, name: &str) -> Option<Symbol> {
+        if let Some(module) = module {
+            return self.find_in(self.find_module(module)?, name);
+        }
+        let entry = first_from(self.index.defined.as_slice(), name, FIRST)?;
+        Some(Symbol {
+            scope: entry.scope,
+            index: entry.index,
+        })
+    }
+}

@@ -1,0 +1,327 @@
+//! Which numbers, sizes and characters the constraints of a type allow, as far as PER and OER see them (X.691 10.3,
+//! X.696 8.2).
+use crate::bases::{Base, ConstraintUse, base_of};
+use crate::errors::{NotationError, Problem};
+use crate::numbers::{ValueUse, integer_of, settled};
+use crate::scopes::{Files, Scope, TypeUse};
+use asn1_notation_constraints::{ConstraintTerm, Visible, effective};
+use asn1_notation_intervals::Interval;
+use asn1_notation_tree::{
+    ConstraintIndex, ConstraintKind, Limit, NamedNumber, RangeEnd, TypeKind, ValueIndex, ValueKind,
+};
+use std::alloc::Global;
+use std::str;
+
+/// How many levels of constraints are followed.
+const MOST_LEVELS: u32 = 64;
+
+/// What is looked for in a constraint.
+#[derive(Clone, Copy, PartialEq, Eq)]
+pub enum Aspect {
+    /// The numbers of an INTEGER, or those in SIZE (X.680 51.2 and 51.4).
+    Numbers,
+    /// The sizes (X.680 51.5).
+    Sizes,
+    /// The permitted alphabet (X.680 51.7).
+    Alphabet,
+    /// The characters in FROM.
+    Characters,
+}
+
+/// What PER and OER see of the constraints of a type, applied one after the other (X.680 50.8); none if they see none.
+/// Constraints of another aspect do not count.
+pub fn visible(
+    alloc: Global,
+    files: Files<'_, '_>,
+    base: &Base<'_>,
+    aspect: Aspect,
+) -> Result<Option<Visible>, NotationError> {
+    let numbers: &[NamedNumber] = match &base.term.kind {
+        TypeKind::Integer(numbers) => numbers.as_slice(),
+        _ => &[],
+    };
+    let mut terms = Terms {
+        alloc,
+        files,
+        scope: base.at.scope,
+        numbers,
+        terms: Vec::new(alloc),
+    };
+    let roots = terms.add_all(base.constraints.as_slice(), aspect, MOST_LEVELS)?;
+    let place = base.term.place;
+    match effective(alloc, terms.terms.as_slice(), roots.as_slice()) {
+        Ok(visible) if visible.is_visible => Ok(Some(visible)),
+        Ok(_) => Ok(None),
+        Err(_) => Err(base.at.scope.error(place, Problem::OutOfMemory)),
+    }
+}
+
+/// The constraints of a type as a table of parts.
+#[derive(Drop)]
+struct Terms<'a, 'i> {
+    alloc: Global,
+    files: Files<'a, 'i>,
+    /// The module of the type.
+    scope: Scope,
+    /// The named numbers of the type.
+    numbers: &'a [NamedNumber],
+    terms: Vec<ConstraintTerm>,
+}
+
+impl Terms<'_, '_> {
+    /// Adds a part, and returns its index.
+    fn add(&mut self, term: ConstraintTerm) -> Result<usize, NotationError> {
+        let index = self.terms.len();
+        self.terms.push(term)?;
+        Ok(index)
+    }
+
+    /// Adds constraints that are applied one after the other, and returns their indices, that of the parent type first.
+    #[cycle(constraints)]
+    fn add_all(
+        &mut self,
+        constraints: &[ConstraintUse],
+        aspect: Aspect,
+        levels: u32,
+    ) -> Result<Vec<usize>, NotationError> {
+        let mut roots = Vec::new(self.alloc);
+        for back in 0..constraints.len() {
+            let constraint = constraints[constraints.len() - 1 - back];
+            let root = self.add_constraint(constraint.scope, constraint.index, aspect, levels)?;
+            if let Some(root) = root {
+                roots.push(root)?;
+            }
+        }
+        Ok(roots)
+    }
+
+    /// Adds a constraint, and returns its index, if it is of the aspect.
+    #[cycle(constraints)]
+    fn add_constraint(
+        &mut self,
+        scope: Scope,
+        index: ConstraintIndex,
+        aspect: Aspect,
+        levels: u32,
+    ) -> Result<Option<usize>, NotationError> {
+        let term = self.files.constraint_term(scope, index)?;
+        if levels == 0 {
+            return Err(scope.error(term.place, Problem::TooDeep));
+        }
+        let below = levels - 1;
+        match &term.kind {
+            ConstraintKind::Extensible(root, _) => {
+                self.add_extensible(scope, *root, aspect, below)
+            }
+            ConstraintKind::Single(value) => self.add_single(scope, *value, aspect),
+            ConstraintKind::Range(low, high) => self.add_range(scope, *low, *high, aspect),
+            ConstraintKind::Size(inner) if aspect == Aspect::Sizes => {
+                self.add_constraint(scope, *inner, Aspect::Numbers, below)
+            }
+            ConstraintKind::From(inner) if aspect == Aspect::Alphabet => {
+                self.add_constraint(scope, *inner, Aspect::Characters, below)
+            }
+            ConstraintKind::Contained(inner) => self.add_contained(scope, *inner, aspect, below),
+            ConstraintKind::Union(parts) => self.add_union(scope, parts.as_slice(), aspect, below),
+            ConstraintKind::Intersection(parts) => {
+                self.add_intersection(scope, parts.as_slice(), aspect, below)
+            }
+            ConstraintKind::Except(first, _) => {
+                self.add_constraint(scope, *first, aspect, below)
+            }
+            ConstraintKind::Size(_)
+            | ConstraintKind::From(_)
+            | ConstraintKind::AllExcept(_)
+            | ConstraintKind::Unseen(_) => Ok(None),
+        }
+    }
+
+    /// Adds a root before an extension marker.
+    #[cycle(constraints)]
+    fn add_extensible(
+        &mut self,
+        scope: Scope,
+        root: ConstraintIndex,
+        aspect: Aspect,
+        levels: u32,
+    ) -> Result<Option<usize>, NotationError> {
+        match self.add_constraint(scope, root, aspect, levels)? {
+            None => Ok(None),
+            Some(root) => {
+                let extensible = ConstraintTerm::Extensible {
+                    root,
+                    additions: None,
+                };
+                Ok(Some(self.add(extensible)?))
+            }
+        }
+    }
+
+    /// Adds the values of a contained subtype (X.680 51.3).
+    #[cycle(constraints)]
+    fn add_contained(
+        &mut self,
+        scope: Scope,
+        index: usize,
+        aspect: Aspect,
+        levels: u32,
+    ) -> Result<Option<usize>, NotationError> {
+        let base = base_of(self.alloc, self.files, TypeUse { scope, index })?;
+        let roots = self.add_all(base.constraints.as_slice(), aspect, levels)?;
+        if roots.is_empty() {
+            return Ok(None);
+        }
+        Ok(Some(self.add(ConstraintTerm::Intersection(roots))?))
+    }
+
+    /// Adds a union. If one of its parts is of another aspect, it admits all.
+    #[cycle(constraints)]
+    fn add_union(
+        &mut self,
+        scope: Scope,
+        parts: &[ConstraintIndex],
+        aspect: Aspect,
+        levels: u32,
+    ) -> Result<Option<usize>, NotationError> {
+        let mut all = Vec::new(self.alloc);
+        for part in parts {
+            match self.add_constraint(scope, *part, aspect, levels)? {
+                None => return Ok(None),
+                Some(part) => all.push(part)?,
+            }
+        }
+        Ok(Some(self.add(ConstraintTerm::Union(all))?))
+    }
+
+    /// Adds an intersection of those of its parts that are of the aspect.
+    #[cycle(constraints)]
+    fn add_intersection(
+        &mut self,
+        scope: Scope,
+        parts: &[ConstraintIndex],
+        aspect: Aspect,
+        levels: u32,
+    ) -> Result<Option<usize>, NotationError> {
+        let mut all = Vec::new(self.alloc);
+        for part in parts {
+            if let Some(part) = self.add_constraint(scope, *part, aspect, levels)? {
+                all.push(part)?;
+            }
+        }
+        if all.is_empty() {
+            return Ok(None);
+        }
+        Ok(Some(self.add(ConstraintTerm::Intersection(all))?))
+    }
+
+    /// Adds a single value: a number, or the characters of a string in FROM.
+    fn add_single(
+        &mut self,
+        scope: Scope,
+        index: ValueIndex,
+        aspect: Aspect,
+    ) -> Result<Option<usize>, NotationError> {
+        let value = ValueUse { scope, index };
+        match aspect {
+            Aspect::Numbers => {
+                let number = self.number(value)?;
+                Ok(Some(self.add_interval(Some(number), Some(number))?))
+            }
+            Aspect::Characters => Ok(Some(self.add_characters(value)?)),
+            Aspect::Sizes | Aspect::Alphabet => Ok(None),
+        }
+    }
+
+    /// Adds an interval.
+    fn add_interval(
+        &mut self,
+        low: Option<i128>,
+        high: Option<i128>,
+    ) -> Result<usize, NotationError> {
+        self.add(ConstraintTerm::Range(Interval { low, high }))
+    }
+
+    /// Adds a range of numbers or characters.
+    fn add_range(
+        &mut self,
+        scope: Scope,
+        low: RangeEnd,
+        high: RangeEnd,
+        aspect: Aspect,
+    ) -> Result<Option<usize>, NotationError> {
+        match aspect {
+            Aspect::Sizes | Aspect::Alphabet => Ok(None),
+            Aspect::Numbers | Aspect::Characters => {
+                let low = self.end(scope, low, 1, aspect)?;
+                let high = self.end(scope, high, -1, aspect)?;
+                Ok(Some(self.add_interval(low, high)?))
+            }
+        }
+    }
+
+    /// An end of a range, which is `inside` further in if it is open.
+    fn end(
+        &self,
+        scope: Scope,
+        end: RangeEnd,
+        inside: i128,
+        aspect: Aspect,
+    ) -> Result<Option<i128>, NotationError> {
+        let Limit::Value(index) = end.limit else {
+            return Ok(None);
+        };
+        let value = ValueUse { scope, index };
+        let number = match aspect {
+            Aspect::Characters => self.character(value)?,
+            _ => self.number(value)?,
+        };
+        if !end.is_open {
+            return Ok(Some(number));
+        }
+        match number.checked_add(inside) {
+            Some(next) => Ok(Some(next)),
+            None => Err(self.error(value, Problem::UnsupportedConstraint)),
+        }
+    }
+
+    /// A number in a constraint.
+    fn number(&self, value: ValueUse) -> Result<i128, NotationError> {
+        integer_of(self.files, self.scope, self.numbers, value)
+    }
+
+    /// Adds the characters of a string in FROM.
+    fn add_characters(&mut self, value: ValueUse) -> Result<usize, NotationError> {
+        let mut all = Vec::new(self.alloc);
+        for character in text_of(self.files, value)?.chars() {
+            let number = Some(i128::from(u32::from(character)));
+            all.push(self.add_interval(number, number)?)?;
+        }
+        self.add(ConstraintTerm::Union(all))
+    }
+
+    /// The single character of a string at an end of a range.
+    fn character(&self, value: ValueUse) -> Result<i128, NotationError> {
+        let mut characters = text_of(self.files, value)?.chars();
+        let (Some(character), None) = (characters.next(), characters.next()) else {
+            return Err(self.error(value, Problem::ValueOfOtherType));
+        };
+        Ok(i128::from(u32::from(character)))
+    }
+
+    /// An error at a value.
+    fn error(&self, value: ValueUse, problem: Problem) -> NotationError {
+        value.error(self.files, problem)
+    }
+}
+
+/// The characters of a string.
+fn text_of<'a>(files: Files<'a, '_>, value: ValueUse) -> Result<&'a str, NotationError> {
+    let at = settled(files, value)?;
+    let ValueKind::Text(octets) = &files.value_term(at.scope, at.index)?.kind else {
+        return Err(value.error(files, Problem::ValueOfOtherType));
+    };
+    match str::from_utf8(octets.as_slice()) {
+        Ok(text) => Ok(text),
+        Err(_) => Err(value.error(files, Problem::ValueOfOtherType)),
+    }
+}

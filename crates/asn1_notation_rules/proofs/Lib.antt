@@ -1,0 +1,3 @@
+pub mod Numbering
+pub mod Counting
+pub mod Rows

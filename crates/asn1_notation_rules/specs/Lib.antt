@@ -1,0 +1,4 @@
+pub mod Enumerations
+pub mod Insertions
+pub mod Ordering
+pub mod Tags

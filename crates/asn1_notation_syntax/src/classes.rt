@@ -1,0 +1,75 @@
+//! Information object classes and objects (X.681 9 to 12).
+use crate::types::read_type;
+use asn1_notation_parsing::{MAXIMUM_DEPTH, Parsed, Parser};
+use asn1_notation_tokens::{ItemKind, Symbol, Word};
+use asn1_notation_tree::{ClassField, Expected, TypeIndex};
+
+/// The fields of a class, in braces, and its syntax after WITH SYNTAX, which is not kept.
+pub fn read_class_fields(parser: &mut Parser<'_>) -> Parsed<Vec<ClassField>> {
+    parser.expect(Symbol::LeftBrace)?;
+    let mut fields = Vec::new(parser.alloc);
+    for _ in 0..parser.left() {
+        fields.push(read_class_field(parser)?)?;
+        if !parser.eat(Symbol::Comma) {
+            break;
+        }
+    }
+    parser.end_list(Symbol::RightBrace)?;
+    if parser.eat_word(Word::With) {
+        parser.expect_word(Word::Syntax)?;
+        parser.skip_braces()?;
+    }
+    Ok(fields)
+}
+
+/// A field of a class: its name, and the type of its values if it is given.
+fn read_class_field(parser: &mut Parser<'_>) -> Parsed<ClassField> {
+    if parser.peek() != ItemKind::Field {
+        return Err(parser.expected(Expected::Field));
+    }
+    let name = parser.take_name()?;
+    let fixed = read_fixed_type(parser)?;
+    skip_field(parser);
+    Ok(ClassField { name, fixed })
+}
+
+/// The type of the values of a field, if it is given.
+fn read_fixed_type(parser: &mut Parser<'_>) -> Parsed<Option<TypeIndex>> {
+    match parser.peek() {
+        ItemKind::Word(Word::Optional | Word::Default | Word::Unique) => Ok(None),
+        ItemKind::Word(_) | ItemKind::Reference | ItemKind::Symbol(Symbol::LeftBracket) => {
+            Ok(Some(read_type(parser, MAXIMUM_DEPTH)?))
+        }
+        _ => Ok(None),
+    }
+}
+
+/// Goes past what is left of a field: UNIQUE, OPTIONAL, DEFAULT and what follows it, or another field.
+fn skip_field(parser: &mut Parser<'_>) {
+    let mut open: usize = 0;
+    for _ in 0..parser.left() {
+        match parser.peek() {
+            ItemKind::Symbol(Symbol::LeftBrace) => open = open.saturating_add(1),
+            ItemKind::Symbol(Symbol::RightBrace | Symbol::Comma) if open == 0 => return,
+            ItemKind::Symbol(Symbol::RightBrace) => open = open.saturating_sub(1),
+            _ => {}
+        }
+        parser.advance();
+    }
+}
+
+/// Whether the braces at the next item hold an information object: they begin with a field, or with a capital letter
+/// and no value.
+pub fn see_object(parser: &Parser<'_>) -> bool {
+    if !parser.sees(Symbol::LeftBrace) {
+        return false;
+    }
+    match parser.peek_after(1) {
+        ItemKind::Field => true,
+        ItemKind::Reference | ItemKind::Word(_) => !matches!(
+            parser.peek_after(2),
+            ItemKind::Symbol(Symbol::Comma | Symbol::Dot | Symbol::Colon | Symbol::RightBrace)
+        ),
+        _ => false,
+    }
+}

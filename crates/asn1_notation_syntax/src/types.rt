@@ -1,0 +1,152 @@
+//! Types (X.680 17.1).
+use crate::collections::read_collection;
+use crate::components::read_components;
+use asn1_notation_parsing::{
+    Parsed, Parser, Refusal, read_constraints, read_number, read_qualifier, read_simple, read_value,
+};
+use asn1_notation_tokens::{ItemKind, Symbol, Word};
+use asn1_notation_tree::{
+    ActualParameter, Expected, Name, Reference, TagClass, Tagging, TaggingMode, TypeIndex,
+    TypeKind, TypeTerm, UnsupportedType,
+};
+
+/// A type that begins at the next item, nested at most this deep, with the constraints after it.
+#[cycle(types)]
+pub fn read_type(parser: &mut Parser<'_>, depth: usize) -> Parsed<TypeIndex> {
+    let place = parser.next;
+    if depth == 0 {
+        return Err(Refusal::TooDeep(place));
+    }
+    let inner = depth - 1;
+    let mut constraints = Vec::new(parser.alloc);
+    let kind = match parser.peek() {
+        ItemKind::Symbol(Symbol::LeftBracket) => {
+            let tag = read_tag(parser)?;
+            TypeKind::Tagged(tag, read_type(parser, inner)?)
+        }
+        ItemKind::Word(Word::Sequence | Word::Set) => {
+            read_collection(parser, inner, &mut constraints)?
+        }
+        ItemKind::Word(Word::Choice) => {
+            parser.advance();
+            TypeKind::Choice(read_components(parser, inner, true)?)
+        }
+        ItemKind::Word(word) => read_simple(parser, word)?,
+        ItemKind::Reference => read_named(parser, inner)?,
+        ItemKind::Identifier => {
+            let name = parser.identifier()?;
+            parser.expect(Symbol::Less)?;
+            TypeKind::Unsupported(UnsupportedType::Selection(name, read_type(parser, inner)?))
+        }
+        _ => return Err(parser.expected(Expected::Type)),
+    };
+    read_constraints(parser, inner, &mut constraints)?;
+    parser.add_type(TypeTerm {
+        place,
+        kind,
+        constraints,
+    })
+}
+
+/// A tag, and IMPLICIT or EXPLICIT after it (X.680 31.1).
+fn read_tag(parser: &mut Parser<'_>) -> Parsed<Tagging> {
+    parser.expect(Symbol::LeftBracket)?;
+    let class = if parser.eat_word(Word::Universal) {
+        TagClass::Universal
+    } else if parser.eat_word(Word::Application) {
+        TagClass::Application
+    } else if parser.eat_word(Word::Private) {
+        TagClass::Private
+    } else {
+        TagClass::Context
+    };
+    let number = read_number(parser)?;
+    parser.expect(Symbol::RightBracket)?;
+    let mode = if parser.eat_word(Word::Implicit) {
+        Some(TaggingMode::Implicit)
+    } else if parser.eat_word(Word::Explicit) {
+        Some(TaggingMode::Explicit)
+    } else {
+        None
+    };
+    Ok(Tagging {
+        class,
+        number,
+        mode,
+    })
+}
+
+/// A type by its name, with its actual parameters, or a field of an information object class.
+#[cycle(types)]
+fn read_named(parser: &mut Parser<'_>, depth: usize) -> Parsed<TypeKind> {
+    let module = read_qualifier(parser, ItemKind::Reference)?;
+    let name = parser.reference()?;
+    if parser.sees(Symbol::Dot) {
+        let class = Reference {
+            module,
+            name,
+            parameters: Vec::new(parser.alloc),
+        };
+        let fields = read_fields(parser)?;
+        return Ok(TypeKind::Unsupported(UnsupportedType::Field(class, fields)));
+    }
+    let parameters = if parser.sees(Symbol::LeftBrace) {
+        read_parameters(parser, depth)?
+    } else {
+        Vec::new(parser.alloc)
+    };
+    Ok(TypeKind::Reference(Reference {
+        module,
+        name,
+        parameters,
+    }))
+}
+
+/// The names of fields, each after a dot (X.681 14.1).
+fn read_fields(parser: &mut Parser<'_>) -> Parsed<Vec<Name>> {
+    let mut fields = Vec::new(parser.alloc);
+    for _ in 0..parser.left() {
+        if !parser.eat(Symbol::Dot) {
+            break;
+        }
+        if parser.peek() != ItemKind::Field {
+            return Err(parser.expected(Expected::Field));
+        }
+        fields.push(parser.take_name()?)?;
+    }
+    Ok(fields)
+}
+
+/// Actual parameters in braces (X.683 9.5).
+#[cycle(types)]
+fn read_parameters(parser: &mut Parser<'_>, depth: usize) -> Parsed<Vec<ActualParameter>> {
+    parser.expect(Symbol::LeftBrace)?;
+    let mut parameters = Vec::new(parser.alloc);
+    for _ in 0..parser.left() {
+        parameters.push(read_parameter(parser, depth)?)?;
+        if !parser.eat(Symbol::Comma) {
+            break;
+        }
+    }
+    parser.end_list(Symbol::RightBrace)?;
+    Ok(parameters)
+}
+
+/// An actual parameter: a type with a capital letter, what is in braces, or else a value.
+#[cycle(types)]
+fn read_parameter(parser: &mut Parser<'_>, depth: usize) -> Parsed<ActualParameter> {
+    match parser.peek() {
+        ItemKind::Symbol(Symbol::LeftBrace) => {
+            let place = parser.next;
+            parser.skip_braces()?;
+            Ok(ActualParameter::Braces(place))
+        }
+        ItemKind::Word(Word::True | Word::False) => {
+            Ok(ActualParameter::Value(read_value(parser, depth)?))
+        }
+        ItemKind::Reference | ItemKind::Word(_) | ItemKind::Symbol(Symbol::LeftBracket) => {
+            Ok(ActualParameter::Type(read_type(parser, depth)?))
+        }
+        _ => Ok(ActualParameter::Value(read_value(parser, depth)?)),
+    }
+}

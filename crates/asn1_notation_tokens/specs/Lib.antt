@@ -1,0 +1,4 @@
+pub mod Words
+pub mod Spans
+pub mod Lexical
+pub mod Positions

@@ -1,0 +1,508 @@
+//! The nodes of a table (X.680 18 to 41).
+use crate::defaults::default_of;
+use crate::parts::{Part, Parts, TaggedPart, alternatives_of, ordered, parts_of, tags_of_part};
+use crate::tables::Additions;
+use asn1_notation_resolving::{
+    Base, Files, NotationError, Numbered, Problem, TypeUse, ValueUse, alphabet, base_of,
+    number_limits, number_of, numbers_of, sizes,
+};
+use asn1_notation_tree::{
+    Components, Element, Enumeration, NamedNumber, Presence as WrittenPresence, StringName,
+    TypeKind,
+};
+use asn1_schema_constraints::{Bounded, Sizes};
+use asn1_schema_tags::Tag;
+use asn1_table_names::{NamedNumber as NumberName, TypeNames};
+use asn1_table_types::{
+    Alternative, AlternativeTable, Component, ComponentTable, ItemTable, Presence, StringKind,
+    StringTable, TypeNode,
+};
+use asn1_values_integers::Integer;
+use std::alloc::Global;
+use std::mem;
+
+/// An index outside each table, where a type without values is.
+const NO_TYPE: usize = usize::MAX;
+
+/// A table that grows: its types, the names beside them, and where each is written.
+#[derive(Drop)]
+pub(crate) struct Building<'a, 'i> {
+    alloc: Global,
+    files: Files<'a, 'i>,
+    additions: Additions,
+    pub(crate) nodes: Vec<TypeNode>,
+    pub(crate) names: Vec<TypeNames>,
+    /// Where each type is written that is not built yet.
+    pub(crate) uses: Vec<Option<TypeUse>>,
+    /// The index of each type term, by files, if it has one.
+    places: Vec<Vec<Option<usize>>>,
+}
+
+impl<'a, 'i> Building<'a, 'i> {
+    /// No types yet.
+    pub(crate) fn new(
+        alloc: Global,
+        files: Files<'a, 'i>,
+        additions: Additions,
+    ) -> Result<Building<'a, 'i>, NotationError> {
+        let mut places = Vec::new(alloc);
+        for file in files.files {
+            let mut of_file = Vec::new(alloc);
+            of_file.resize(file.types.len(), None)?;
+            places.push(of_file)?;
+        }
+        Ok(Building {
+            alloc,
+            files,
+            additions,
+            nodes: Vec::new(alloc),
+            names: Vec::new(alloc),
+            uses: Vec::new(alloc),
+            places,
+        })
+    }
+
+    /// The index of a type, which is new if the type is met for the first time. A type that tables do not hold is
+    /// outside the table.
+    pub(crate) fn place_of(&mut self, at: TypeUse) -> Result<usize, NotationError> {
+        let base = base_of(self.alloc, self.files, at)?;
+        if matches!(base.term.kind, TypeKind::Unsupported(_)) {
+            return Ok(NO_TYPE);
+        }
+        let key = if base.outer == 0 { base.at } else { at };
+        let known = match self.places.get(key.scope.file) {
+            Some(places) => places.get(key.index).copied().flatten(),
+            None => None,
+        };
+        if let Some(place) = known {
+            return Ok(place);
+        }
+        let place = self.add(TypeNode::Null, self.names_of(&base)?, Some(at))?;
+        if let Some(places) = self.places.get_mut(key.scope.file) {
+            if let Some(known) = places.get_mut(key.index) {
+                *known = Some(place);
+            }
+        }
+        Ok(place)
+    }
+
+    /// The names of a type, as far as its reference gives them.
+    fn names_of(&self, base: &Base<'_>) -> Result<TypeNames, NotationError> {
+        let mut names = TypeNames::new(self.alloc);
+        if let Some(symbol) = base.symbol {
+            if let Some(assignment) = self.files.assignment(symbol) {
+                names.name.push_str(assignment.name.text.as_str())?;
+            }
+        }
+        Ok(names)
+    }
+
+    /// Adds a type.
+    fn add(
+        &mut self,
+        node: TypeNode,
+        names: TypeNames,
+        at: Option<TypeUse>,
+    ) -> Result<usize, NotationError> {
+        let place = self.nodes.len();
+        self.nodes.push(node)?;
+        self.names.push(names)?;
+        self.uses.push(at)?;
+        Ok(place)
+    }
+
+    /// Builds the type at an index.
+    pub(crate) fn build(&mut self, place: usize) -> Result<(), NotationError> {
+        let Some(Some(at)) = self.uses.get(place).copied() else {
+            return Ok(());
+        };
+        let base = base_of(self.alloc, self.files, at)?;
+        let mut names = self.names_of(&base)?;
+        let node = self.node_of(&base, &mut names)?;
+        if let (Some(known), Some(known_names)) = (
+            self.nodes.get_mut(place),
+            self.names.get_mut(place),
+        ) {
+            *known = node;
+            *known_names = names;
+        }
+        Ok(())
+    }
+
+    /// A type.
+    fn node_of(
+        &mut self,
+        base: &Base<'a>,
+        names: &mut TypeNames,
+    ) -> Result<TypeNode, NotationError> {
+        match &base.term.kind {
+            TypeKind::Boolean => Ok(TypeNode::Boolean),
+            TypeKind::Null => Ok(TypeNode::Null),
+            TypeKind::Integer(numbers) => self.integer(base, numbers.as_slice(), names),
+            TypeKind::Enumerated(items) => self.enumerated(base, items, names),
+            TypeKind::BitString(bits) => self.bit_string(base, bits.as_slice(), names),
+            TypeKind::OctetString => Ok(TypeNode::OctetString(self.sizes(base)?)),
+            TypeKind::CharacterString(name) => self.character_string(base, *name),
+            TypeKind::ObjectIdentifier => Ok(TypeNode::ObjectIdentifier),
+            TypeKind::SequenceOf(element) => {
+                let (sizes, place) = self.list(base, element)?;
+                Ok(TypeNode::SequenceOf(sizes, place))
+            }
+            TypeKind::SetOf(element) => {
+                let (sizes, place) = self.list(base, element)?;
+                Ok(TypeNode::SetOf(sizes, place))
+            }
+            TypeKind::Sequence(components) => {
+                Ok(TypeNode::Sequence(self.components(base, components, false, names)?))
+            }
+            TypeKind::Set(components) => {
+                Ok(TypeNode::Set(self.components(base, components, true, names)?))
+            }
+            TypeKind::Choice(components) => self.choice(base, components, names),
+            TypeKind::Tagged(..) | TypeKind::Reference(_) | TypeKind::Unsupported(_) => {
+                Err(base.error(Problem::UnsupportedType))
+            }
+        }
+    }
+
+    /// The sizes of a type.
+    fn sizes(&self, base: &Base<'_>) -> Result<Sizes, NotationError> {
+        sizes(self.alloc, self.files, base)
+    }
+
+    /// The names of numbers.
+    fn number_names(
+        &self,
+        base: &Base<'_>,
+        numbers: &[NamedNumber],
+        names: &mut TypeNames,
+    ) -> Result<(), NotationError> {
+        let scope = base.at.scope;
+        for number in numbers {
+            let index = number.number;
+            let value = number_of(self.files, ValueUse { scope, index })?;
+            names.numbers.push(NumberName {
+                name: String::from_str(self.alloc, number.name.text.as_str())?,
+                number: Integer::from_i128(value),
+            })?;
+        }
+        Ok(())
+    }
+
+    /// INTEGER (X.680 19).
+    fn integer(
+        &mut self,
+        base: &Base<'_>,
+        numbers: &[NamedNumber],
+        names: &mut TypeNames,
+    ) -> Result<TypeNode, NotationError> {
+        self.number_names(base, numbers, names)?;
+        let limits = number_limits(self.alloc, self.files, base)?;
+        Ok(TypeNode::Integer(limits))
+    }
+
+    /// ENUMERATED (X.680 20).
+    fn enumerated(
+        &mut self,
+        base: &Base<'_>,
+        items: &Enumeration,
+        names: &mut TypeNames,
+    ) -> Result<TypeNode, NotationError> {
+        let numbers = numbers_of(self.alloc, self.files, base.at.scope, items)?;
+        let mut table = ItemTable {
+            root: Vec::new(self.alloc),
+            is_extensible: items.is_extensible,
+            additions: Vec::new(self.alloc),
+        };
+        add_items(
+            self.alloc,
+            numbers.root.as_slice(),
+            &mut table.root,
+            &mut names.root,
+        )?;
+        let added = numbers.additions.as_slice();
+        add_items(
+            self.alloc,
+            added,
+            &mut table.additions,
+            &mut names.additions,
+        )?;
+        Ok(TypeNode::Enumerated(table))
+    }
+
+    /// BIT STRING (X.680 22). With named bits its size must be fixed: the zeros at its end do not count (X.680 22.7).
+    fn bit_string(
+        &mut self,
+        base: &Base<'_>,
+        bits: &[NamedNumber],
+        names: &mut TypeNames,
+    ) -> Result<TypeNode, NotationError> {
+        self.number_names(base, bits, names)?;
+        let sizes = self.sizes(base)?;
+        let is_fixed = matches!(sizes.root, Bounded::Single(_)) && !sizes.is_extensible;
+        if !bits.is_empty() && !is_fixed {
+            return Err(base.error(Problem::NamedBits));
+        }
+        Ok(TypeNode::BitString(sizes))
+    }
+
+    /// A restricted character string (X.680 41).
+    fn character_string(
+        &self,
+        base: &Base<'_>,
+        name: StringName,
+    ) -> Result<TypeNode, NotationError> {
+        let kind = match name {
+            StringName::Bmp => StringKind::Bmp,
+            StringName::General => StringKind::General,
+            StringName::Graphic => StringKind::Graphic,
+            StringName::Ia5 => StringKind::Ia5,
+            StringName::Numeric => StringKind::Numeric,
+            StringName::Printable => StringKind::Printable,
+            StringName::Teletex => StringKind::Teletex,
+            StringName::Utf8 => StringKind::Utf8,
+            StringName::Visible => StringKind::Visible,
+            StringName::Universal | StringName::Videotex => {
+                return Err(base.error(Problem::UnsupportedType));
+            }
+        };
+        Ok(TypeNode::CharacterString(StringTable {
+            kind,
+            sizes: self.sizes(base)?,
+            alphabet: alphabet(self.alloc, self.files, base, kind)?,
+        }))
+    }
+
+    /// The sizes and the element of a SEQUENCE OF or SET OF (X.680 26 and 28).
+    fn list(
+        &mut self,
+        base: &Base<'_>,
+        element: &Element,
+    ) -> Result<(Sizes, usize), NotationError> {
+        let at = TypeUse {
+            scope: base.at.scope,
+            index: element.element,
+        };
+        Ok((self.sizes(base)?, self.place_of(at)?))
+    }
+
+    /// A component with these tags.
+    fn component(
+        &mut self,
+        part: Part<'_>,
+        tags: Vec<Tag>,
+        is_added: bool,
+    ) -> Result<Component, NotationError> {
+        let may_be_absent = is_added && matches!(self.additions, Additions::MayBeAbsent);
+        let presence = match part.presence {
+            WrittenPresence::Required if may_be_absent => Presence::Optional,
+            WrittenPresence::Required => Presence::Required,
+            WrittenPresence::Optional => Presence::Optional,
+            WrittenPresence::Default(index) => {
+                let value = ValueUse {
+                    scope: part.at.scope,
+                    index,
+                };
+                let base = base_of(self.alloc, self.files, part.at)?;
+                Presence::Default(default_of(self.alloc, self.files, &base, value)?)
+            }
+        };
+        Ok(Component {
+            tags,
+            presence,
+            place: self.place_of(part.at)?,
+        })
+    }
+
+    /// A copy of a part's name.
+    fn name_of(&self, part: Part<'_>) -> Result<String, NotationError> {
+        Ok(String::from_str(self.alloc, part.name.text.as_str())?)
+    }
+
+    /// The components of a SEQUENCE, tagged by position, or of a SET in the order of their tags (X.680 8.6), and their
+    /// names.
+    fn components(
+        &mut self,
+        base: &Base<'a>,
+        components: &'a Components,
+        is_set: bool,
+        names: &mut TypeNames,
+    ) -> Result<ComponentTable, NotationError> {
+        let parts = parts_of(self.alloc, self.files, base.at.scope, components)?;
+        let mut table = ComponentTable {
+            root: Vec::new(self.alloc),
+            is_extensible: parts.is_extensible,
+            additions: Vec::new(self.alloc),
+        };
+        for index in self.root_order(&parts, is_set)? {
+            if let Some(part) = parts.root.get(index).copied() {
+                let automatic = if is_set {
+                    parts.root_tag(index)
+                } else {
+                    position_tag(index)
+                };
+                let tags = tags_of_part(self.alloc, self.files, part, automatic)?;
+                names.root.push(self.name_of(part)?)?;
+                table.root.push(self.component(part, tags, false)?)?;
+            }
+        }
+        self.add_additions(&parts, is_set, &mut table.additions, names)?;
+        Ok(table)
+    }
+
+    /// The indices of root components: as they are written, or for a SET in the order of their least tags.
+    fn root_order(&self, parts: &Parts<'a>, is_set: bool) -> Result<Vec<usize>, NotationError> {
+        let mut least = Vec::new(self.alloc);
+        let mut order = Vec::new(self.alloc);
+        for index in 0..parts.root.len() {
+            order.push(index)?;
+            if is_set {
+                let part = parts.root[index];
+                let tags = tags_of_part(self.alloc, self.files, part, parts.root_tag(index))?;
+                least.push(least_of(tags.as_slice()))?;
+            }
+        }
+        if is_set {
+            return ordered(self.alloc, parts.root.as_slice(), least.as_slice());
+        }
+        Ok(order)
+    }
+
+    /// Adds the additions of a SEQUENCE or SET, and their names. Those in the same version brackets are a group.
+    fn add_additions(
+        &mut self,
+        parts: &Parts<'a>,
+        is_set: bool,
+        additions: &mut Vec<Component>,
+        names: &mut TypeNames,
+    ) -> Result<(), NotationError> {
+        let mut group = Grouped::new(self.alloc);
+        for index in 0..parts.additions.len() {
+            let part = parts.additions[index];
+            let position = parts.root.len().checked_add(index);
+            let automatic = if is_set {
+                parts.added_tag(index)
+            } else {
+                position.and_then(position_tag)
+            };
+            let tags = tags_of_part(self.alloc, self.files, part, automatic)?;
+            if part.group.is_none() {
+                names.additions.push(self.name_of(part)?)?;
+                additions.push(self.component(part, tags, true)?)?;
+                continue;
+            }
+            group.tags.extend_from_slice(tags.as_slice())?;
+            group.names.root.push(self.name_of(part)?)?;
+            group.components.push(self.component(part, tags, false)?)?;
+            let next = parts.additions.get(index + 1);
+            if next.and_then(|next| next.group) != part.group {
+                let done = mem::replace(&mut group, Grouped::new(self.alloc));
+                names.additions.push(String::new(self.alloc))?;
+                additions.push(self.group(done)?)?;
+            }
+        }
+        Ok(())
+    }
+
+    /// A group of additions (X.680 25.1), which is a type of its own in the table.
+    fn group(&mut self, group: Grouped) -> Result<Component, NotationError> {
+        let Grouped {
+            tags,
+            names,
+            components,
+        } = group;
+        let place = self.add(TypeNode::Group(components), names, None)?;
+        Ok(Component {
+            tags,
+            presence: Presence::Optional,
+            place,
+        })
+    }
+
+    /// CHOICE (X.680 29).
+    fn choice(
+        &mut self,
+        base: &Base<'a>,
+        components: &'a Components,
+        names: &mut TypeNames,
+    ) -> Result<TypeNode, NotationError> {
+        let alternatives = alternatives_of(self.alloc, self.files, base.at.scope, components)?;
+        let root = alternatives.root.as_slice();
+        let root = self.alternatives(root, &mut names.root)?;
+        let additions = alternatives.additions.as_slice();
+        let additions = self.alternatives(additions, &mut names.additions)?;
+        Ok(TypeNode::Choice(AlternativeTable {
+            root,
+            is_extensible: alternatives.is_extensible,
+            additions,
+        }))
+    }
+
+    /// Alternatives, and their names.
+    fn alternatives(
+        &mut self,
+        parts: &[TaggedPart<'a>],
+        names: &mut Vec<String>,
+    ) -> Result<Vec<Alternative>, NotationError> {
+        let mut alternatives = Vec::new(self.alloc);
+        for tagged in parts {
+            names.push(self.name_of(tagged.part)?)?;
+            alternatives.push(Alternative {
+                tag: tagged.tag,
+                place: self.place_of(tagged.part.at)?,
+            })?;
+        }
+        Ok(alternatives)
+    }
+}
+
+/// A group of additions that grows: the tags of all its components, their names, and the components.
+#[derive(Drop)]
+struct Grouped {
+    tags: Vec<Tag>,
+    names: TypeNames,
+    components: Vec<Component>,
+}
+
+impl Grouped {
+    /// A group without components.
+    fn new(alloc: Global) -> Self {
+        Grouped {
+            tags: Vec::new(alloc),
+            names: TypeNames::new(alloc),
+            components: Vec::new(alloc),
+        }
+    }
+}
+
+/// The tag of a component of a SEQUENCE by its position. Neither PER nor OER encodes these tags, which may be equal
+/// (X.680 25.6) and in a table are not.
+fn position_tag(position: usize) -> Option<Tag> {
+    let number = u32::try_from(position).ok()?;
+    Some(Tag::new_context(number))
+}
+
+/// The least tag (X.680 8.6).
+fn least_of(tags: &[Tag]) -> Tag {
+    let mut least = Tag::new_private(u32::MAX);
+    for tag in tags {
+        if tag.const_less_than(least) {
+            least = *tag;
+        }
+    }
+    least
+}
+
+/// Adds the numbers and the names of items.
+fn add_items(
+    alloc: Global,
+    items: &[Numbered<'_>],
+    numbers: &mut Vec<isize>,
+    names: &mut Vec<String>,
+) -> Result<(), NotationError> {
+    for item in items {
+        numbers.push(item.number)?;
+        names.push(String::from_str(alloc, item.name.text.as_str())?)?;
+    }
+    Ok(())
+}

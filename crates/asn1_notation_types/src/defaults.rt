@@ -1,0 +1,208 @@
+//! Defaults (X.680 25.9).
+use asn1_notation_resolving::{
+    Base, Files, NotationError, Problem, TypeUse, ValueUse, base_of, integer_of, numbers_of,
+    settled,
+};
+use asn1_notation_tree::{Element, Enumeration, NamedNumber, StringName, TypeKind, ValueKind};
+use asn1_table_types::{DefaultValue, Event};
+use asn1_values_bit_strings::BitString;
+use asn1_values_integers::Integer;
+use std::alloc::Global;
+use std::str;
+
+/// Values of a type, and where they are written.
+#[derive(Clone, Copy)]
+struct Valued<'a, 'b, 'i> {
+    alloc: Global,
+    files: Files<'a, 'i>,
+    base: &'b Base<'a>,
+    value: ValueUse,
+}
+
+/// The default of a component of a type.
+pub(crate) fn default_of(
+    alloc: Global,
+    files: Files<'_, '_>,
+    base: &Base<'_>,
+    value: ValueUse,
+) -> Result<DefaultValue, NotationError> {
+    match &base.term.kind {
+        TypeKind::SequenceOf(element) => {
+            let events = elements_of(alloc, files, base, element, value)?;
+            Ok(DefaultValue::SequenceOf(events))
+        }
+        TypeKind::SetOf(element) => {
+            let mut events = elements_of(alloc, files, base, element, value)?;
+            let last = events.pop();
+            if events.is_empty() {
+                return Ok(DefaultValue::SetOf(last));
+            }
+            Err(value.error(files, Problem::UnsupportedDefault))
+        }
+        _ => Ok(DefaultValue::Simple(event_of(alloc, files, base, value)?)),
+    }
+}
+
+/// The elements of a list (X.680 26.3 and 28.3), each without parts.
+fn elements_of(
+    alloc: Global,
+    files: Files<'_, '_>,
+    base: &Base<'_>,
+    element: &Element,
+    value: ValueUse,
+) -> Result<Vec<Event>, NotationError> {
+    let at = settled(files, value)?;
+    let ValueKind::List(elements) = &files.value_term(at.scope, at.index)?.kind else {
+        return Err(value.error(files, Problem::ValueOfOtherType));
+    };
+    let of = TypeUse {
+        scope: base.at.scope,
+        index: element.element,
+    };
+    let base = base_of(alloc, files, of)?;
+    let mut events = Vec::new(alloc);
+    for one in elements {
+        let one = ValueUse {
+            scope: at.scope,
+            index: one.value,
+        };
+        events.push(event_of(alloc, files, &base, one)?)?;
+    }
+    Ok(events)
+}
+
+/// A value without parts, of a type.
+fn event_of(
+    alloc: Global,
+    files: Files<'_, '_>,
+    base: &Base<'_>,
+    value: ValueUse,
+) -> Result<Event, NotationError> {
+    let valued = Valued {
+        alloc,
+        files,
+        base,
+        value,
+    };
+    match &base.term.kind {
+        TypeKind::Boolean => valued.truth(),
+        TypeKind::Null => Ok(Event::Nothing),
+        TypeKind::Integer(numbers) => valued.number(numbers.as_slice()),
+        TypeKind::Enumerated(items) => valued.item(items),
+        TypeKind::BitString(names) => valued.bits(names.as_slice()),
+        TypeKind::OctetString => valued.octets(),
+        TypeKind::CharacterString(name) => valued.text(*name),
+        _ => Err(valued.error(Problem::UnsupportedDefault)),
+    }
+}
+
+impl Valued<'_, '_, '_> {
+    /// An error at the value.
+    fn error(self, problem: Problem) -> NotationError {
+        self.value.error(self.files, problem)
+    }
+
+    /// A value of BOOLEAN (X.680 18.3).
+    fn truth(self) -> Result<Event, NotationError> {
+        let at = settled(self.files, self.value)?;
+        match self.files.value_term(at.scope, at.index)?.kind {
+            ValueKind::Boolean(value) => Ok(Event::Truth(value)),
+            _ => Err(self.error(Problem::ValueOfOtherType)),
+        }
+    }
+
+    /// A value of INTEGER (X.680 19.9).
+    fn number(self, numbers: &[NamedNumber]) -> Result<Event, NotationError> {
+        let number = integer_of(self.files, self.base.at.scope, numbers, self.value)?;
+        Ok(Event::Number(Integer::from_i128(number)))
+    }
+
+    /// A value of ENUMERATED (X.680 20.8).
+    fn item(self, items: &Enumeration) -> Result<Event, NotationError> {
+        let scope = self.base.at.scope;
+        let numbers = numbers_of(self.alloc, self.files, scope, items)?;
+        let term = self.files.value_term(self.value.scope, self.value.index)?;
+        let ValueKind::Reference(reference) = &term.kind else {
+            return Err(self.error(Problem::ValueOfOtherType));
+        };
+        let name = reference.name.text.as_str();
+        for item in &numbers.root {
+            if item.name.text.as_str() == name {
+                return Ok(Event::Item(item.number));
+            }
+        }
+        for item in &numbers.additions {
+            if item.name.text.as_str() == name {
+                return Ok(Event::Item(item.number));
+            }
+        }
+        Err(self.error(Problem::UnknownValue))
+    }
+
+    /// A value of BIT STRING (X.680 22.9): a bstring, an hstring, or no named bit.
+    fn bits(self, names: &[NamedNumber]) -> Result<Event, NotationError> {
+        let at = settled(self.files, self.value)?;
+        let mut bits = BitString::new(self.alloc);
+        match &self.files.value_term(at.scope, at.index)?.kind {
+            ValueKind::Binary(digits) => {
+                for digit in digits {
+                    bits.push(*digit == 1)?;
+                }
+            }
+            ValueKind::Hexadecimal(digits) => {
+                for digit in digits {
+                    for weight in [8, 4, 2, 1] {
+                        bits.push(digit & weight != 0)?;
+                    }
+                }
+            }
+            ValueKind::List(elements) if elements.is_empty() && names.is_empty() => {}
+            _ => return Err(self.error(Problem::UnsupportedDefault)),
+        }
+        Ok(Event::Bits(bits))
+    }
+
+    /// A value of a character string (X.680 41.8): its characters by their numbers, or its octets in UTF-8.
+    fn text(self, name: StringName) -> Result<Event, NotationError> {
+        let at = settled(self.files, self.value)?;
+        let ValueKind::Text(text) = &self.files.value_term(at.scope, at.index)?.kind else {
+            return Err(self.error(Problem::ValueOfOtherType));
+        };
+        let mut characters = Vec::new(self.alloc);
+        if matches!(name, StringName::Utf8) {
+            characters.extend_from_slice(text.as_slice())?;
+            return Ok(Event::Text(characters));
+        }
+        let Ok(text) = str::from_utf8(text.as_slice()) else {
+            return Err(self.error(Problem::ValueOfOtherType));
+        };
+        for character in text.chars() {
+            match u8::try_from(u32::from(character)) {
+                Ok(number) => characters.push(number)?,
+                Err(_) => return Err(self.error(Problem::UnsupportedDefault)),
+            }
+        }
+        Ok(Event::Text(characters))
+    }
+
+    /// A value of OCTET STRING (X.680 23.3): a bstring or an hstring, with zeros at its end to whole octets.
+    fn octets(self) -> Result<Event, NotationError> {
+        let at = settled(self.files, self.value)?;
+        let mut octets = Vec::new(self.alloc);
+        let (digits, size) = match &self.files.value_term(at.scope, at.index)?.kind {
+            ValueKind::Binary(digits) => (digits.as_slice(), 1_u8),
+            ValueKind::Hexadecimal(digits) => (digits.as_slice(), 4),
+            _ => return Err(self.error(Problem::ValueOfOtherType)),
+        };
+        let count = if size == 1 { 8 } else { 2 };
+        for part in digits.chunks(count) {
+            let mut octet = 0_u8;
+            for index in 0..count {
+                let digit = part.get(index).copied().unwrap_or(0);
+                octet = (octet << size) | digit;
+            }
+            octets.push(octet)?;
+        }
+        Ok(Event::Octets(octets))
+    }
+}

@@ -1,0 +1,10 @@
+//! From modules in the notation of X.680 to tables of types.
+#![tactic(auto, using(std::proofs::lemmas::Grind::common_steps))]
+
+mod building;
+mod defaults;
+mod parts;
+mod tables;
+
+pub use asn1_notation_resolving::{NotationError, Problem};
+pub use tables::{Additions, Table, table_of};

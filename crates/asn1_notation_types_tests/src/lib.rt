@@ -1,0 +1,9 @@
+//! Tests of the tables that modules in the notation of X.680 become.
+#![tactic(auto)]
+
+#[cfg(test)]
+mod describing;
+#[cfg(test)]
+mod refused;
+#[cfg(test)]
+mod tables;

@@ -1,0 +1,93 @@
+//! Modules without a table for their type T: what is wrong, and where.
+use asn1_notation_syntax::{Syntax, read_syntax};
+use asn1_notation_types::{Additions, Problem, table_of};
+use std::alloc::Global;
+
+/// What is before the assignments.
+const BEGIN: &str = "M DEFINITIONS ::= BEGIN ";
+
+/// Assignments, what is wrong, and the octet from there on.
+const ROWS: [(&str, Problem, usize); 15] = [
+    ("T ::= A", Problem::UnknownType, 6),
+    ("T ::= INTEGER (0..v)", Problem::UnknownValue, 18),
+    ("T ::= A A ::= T", Problem::Circular, 6),
+    (
+        "T ::= A {5} A {INTEGER: n} ::= INTEGER (0..n)",
+        Problem::Parameterised,
+        6,
+    ),
+    ("T ::= BIT STRING {a(0)}", Problem::NamedBits, 6),
+    (
+        "T ::= CHOICE {a CHOICE {b NULL}}",
+        Problem::UntaggedAlternative,
+        14,
+    ),
+    (
+        "T ::= SEQUENCE {COMPONENTS OF NULL}",
+        Problem::ComponentsOfOther,
+        30,
+    ),
+    (
+        "T ::= SEQUENCE {a BOOLEAN DEFAULT 5}",
+        Problem::ValueOfOtherType,
+        34,
+    ),
+    (
+        "T ::= SEQUENCE {a SEQUENCE {b NULL} DEFAULT {b NULL}}",
+        Problem::UnsupportedDefault,
+        44,
+    ),
+    (
+        "T ::= SET {a [4294967296] NULL}",
+        Problem::TagOutOfRange,
+        14,
+    ),
+    ("T ::= INTEGER (1..3 ^ 5..7)", Problem::EmptyConstraint, 6),
+    (
+        "T ::= OCTET STRING (SIZE (18446744073709551616))",
+        Problem::SizeOutOfRange,
+        6,
+    ),
+    ("T ::= ENUMERATED {a(1), b(1)}", Problem::ItemNumber, 24),
+    ("T ::= SET {a NULL, b NULL}", Problem::TagTwice, 19),
+    ("T ::= UniversalString", Problem::UnsupportedType, 6),
+];
+
+/// The syntax of a module with some assignments.
+fn syntax_of(alloc: Global, assignments: &str) -> Option<Syntax> {
+    let text = format!(in alloc; "{BEGIN}{assignments} END").ok()?;
+    read_syntax(alloc, text.as_bytes()).ok()
+}
+
+/// Whether the table of T is refused so.
+fn is_refused(alloc: Global, files: &[Syntax], problem: Problem, offset: usize) -> bool {
+    match (
+        table_of(alloc, files, Some("M"), "T", Additions::AreRequired),
+        files.first(),
+    ) {
+        (Err(error), Some(syntax)) => {
+            error.file == 0
+                && error.problem == problem
+                && syntax.offset(error.place).checked_sub(BEGIN.len()) == Some(offset)
+        }
+        _ => false,
+    }
+}
+
+/// The first of the rows that does not hold.
+fn first_wrong(alloc: Global) -> Option<&'static str> {
+    for (assignments, problem, offset) in &ROWS {
+        let Some(syntax) = syntax_of(alloc, assignments) else {
+            return Some(assignments);
+        };
+        if !is_refused(alloc, &[syntax], *problem, *offset) {
+            return Some(assignments);
+        }
+    }
+    None
+}
+
+#[test]
+fn refusals(rt: HostRuntime) {
+    assert_eq!(rt; first_wrong(rt.alloc()), None);
+}

@@ -1,0 +1,4 @@
+mod Typed
+mod Stated
+mod Sizes
+mod ReadAgain

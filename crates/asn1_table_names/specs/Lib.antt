@@ -1,0 +1,4 @@
+pub mod Texts
+pub mod Names
+pub mod Turns
+pub mod Walking
