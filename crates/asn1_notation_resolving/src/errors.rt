@@ -1,7 +1,10 @@
 //! Why a text has no table.
-ghost use Rattle.std.specs.Prelude.{◌≡◌};
+ghost use Rattle.std.specs.Prelude.{◌≡◌, None};
 
+use asn1_notation_tree::Syntax;
+use asn1_table_types::Flaw;
 use std::alloc::{AllocError, AllocFailed};
+use std::fmt;
 use thiserror::Error;
 
 /// What is wrong, or not supported.
@@ -13,15 +16,27 @@ pub enum Problem {
     /// No value has this name.
     #[error("no such value")]
     UnknownValue,
+    /// No module has this name.
+    #[error("no such module among the files")]
+    UnknownModule,
     /// A name leads to itself, or to another one more than 64 times.
     #[error("the definition leads back to itself")]
     Circular,
     /// The type is, or contains, more levels than are followed.
     #[error("nested too deep")]
     TooDeep,
-    /// A parameterised type (X.683).
-    #[error("parameterised types are not supported")]
+    /// A parameterised value (X.683).
+    #[error("parameterised values are not supported")]
     Parameterised,
+    /// Other actual parameters than those of the definition, or none of them (X.683 9.5).
+    #[error("the actual parameters are not those of the definition")]
+    Parameters,
+    /// A set, a class or an object as a parameter (X.683 9.5).
+    #[error("a set, a class or an object as a parameter is not supported")]
+    ParameterKind,
+    /// More parameterised types with their actual parameters than are followed.
+    #[error("there are more than 4096 parameterised types with other actual parameters")]
+    TooManyInstances,
     /// A type that tables do not hold.
     #[error("this type is not supported")]
     UnsupportedType,
@@ -43,6 +58,9 @@ pub enum Problem {
     /// A tag's number is negative, or above 2^32 - 1.
     #[error("the number of a tag is out of range")]
     TagOutOfRange,
+    /// An arc of an object identifier is negative, or above 2^32 - 1.
+    #[error("an arc of an object identifier is out of range")]
+    ArcOutOfRange,
     /// Two components or alternatives have one tag (X.680 25.6, 27.3 and 29.4).
     #[error("another component or alternative has this tag")]
     TagTwice,
@@ -58,13 +76,38 @@ pub enum Problem {
     /// A constraint in a form that is not supported.
     #[error("this constraint is not supported")]
     UnsupportedConstraint,
+    /// A type that is not lawful: what is wrong with it.
+    #[error("{0}")]
+    Unlawful(Flaw),
     /// Memory ran out.
     #[error("out of memory")]
     OutOfMemory,
 }
 
+/// A module, or an assignment of one.
+#[derive(Clone, Copy, Debug, PartialEq, Eq, Hash)]
+pub struct Near {
+    /// The index of the file.
+    pub file: usize,
+    /// The index of the module in it.
+    pub module: usize,
+    /// The index of the assignment in that, if it is one.
+    pub assignment: Option<usize>,
+}
+
+impl Near {
+    /// Its name.
+    pub fn name(self, files: &[Syntax]) -> Option<&str> {
+        let module = files.get(self.file)?.modules.get(self.module)?;
+        match self.assignment {
+            None => Some(module.name.text.as_str()),
+            Some(index) => Some(module.assignments.get(index)?.name.text.as_str()),
+        }
+    }
+}
+
 /// What is wrong with a text, and where.
-#[derive(Clone, Copy, Debug, PartialEq, Eq, Hash, Drop)]
+#[derive(Clone, Copy, Debug, PartialEq, Eq, Hash)]
 pub struct NotationError {
     /// The index of the file.
     pub file: usize,
@@ -72,15 +115,60 @@ pub struct NotationError {
     pub place: usize,
     /// What is wrong.
     pub problem: Problem,
+    /// What has nearly the name that is unknown, if something has.
+    pub near: Option<Near>,
+}
+
+impl NotationError {
+    /// An error at the first lexical item of the first file.
+    pub fn new(problem: Problem) -> Self
+        ensures { result ≡ record { file = 0; place = 0; problem = problem; near = None } }
+    {
+        NotationError {
+            file: 0,
+            place: 0,
+            problem,
+            near: None,
+        }
+    }
+
+    /// The text of the error, with the name that may have been meant.
+    pub fn explained(self, files: &[Syntax]) -> Explained<'_>
+        ensures { result.problem ≡ self.problem }
+    {
+        Explained {
+            problem: self.problem,
+            suggestion: match self.near {
+                Some(near) => near.name(files),
+                None => None,
+            },
+        }
+    }
+}
+
+/// What is wrong with a text, such as «no such type; did you mean `Message`?».
+#[derive(Clone, Copy, Debug, PartialEq, Eq)]
+pub struct Explained<'a> {
+    /// What is wrong.
+    pub problem: Problem,
+    /// The name that may have been meant.
+    pub suggestion: Option<&'a str>,
+}
+
+impl fmt::Display for Explained<'_> {
+    fn fmt<W: fmt::Write>(&self, f: &mut fmt::Formatter<W>) -> fmt::Result {
+        let problem = self.problem;
+        write!(f, "{problem}")?;
+        match self.suggestion {
+            Some(name) => write!(f, "; did you mean `{name}`?"),
+            None => Ok(()),
+        }
+    }
 }
 
 impl From<AllocError> for NotationError {
     fn from(_refused: AllocError) -> Self {
-        NotationError {
-            file: 0,
-            place: 0,
-            problem: Problem::OutOfMemory,
-        }
+        NotationError::new(Problem::OutOfMemory)
     }
 }
 

@@ -20,9 +20,26 @@ pub struct Numbers<'a> {
     pub additions: Vec<Numbered<'a>>,
 }
 
+impl Numbers<'_> {
+    /// The number of the item with a name.
+    pub fn find(&self, name: &str) -> Option<isize> {
+        for item in &self.root {
+            if item.name.text.as_str() == name {
+                return Some(item.number);
+            }
+        }
+        for item in &self.additions {
+            if item.name.text.as_str() == name {
+                return Some(item.number);
+            }
+        }
+        None
+    }
+}
+
 /// The number that is given for an item, if one is.
 fn given(
-    files: Files<'_, '_>,
+    files: &Files<'_, '_>,
     scope: Scope,
     item: &EnumerationItem,
 ) -> Result<Option<isize>, NotationError> {
@@ -39,7 +56,7 @@ fn given(
 /// The numbers that are given for items.
 fn all_given(
     alloc: Global,
-    files: Files<'_, '_>,
+    files: &Files<'_, '_>,
     scope: Scope,
     items: &[EnumerationItem],
 ) -> Result<Vec<Option<isize>>, NotationError> {
@@ -83,7 +100,7 @@ fn joined<'a>(
 /// All items with their numbers (X.680 20).
 pub fn numbers_of<'a>(
     alloc: Global,
-    files: Files<'_, '_>,
+    files: &Files<'_, '_>,
     scope: Scope,
     items: &'a Enumeration,
 ) -> Result<Numbers<'a>, NotationError> {

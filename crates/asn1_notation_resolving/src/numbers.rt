@@ -1,13 +1,15 @@
-//! Numbers, by themselves or by name.
+//! Numbers and items, by themselves or by name.
 use crate::errors::{NotationError, Problem};
+use crate::instances::{Given, given_for};
+use crate::items::Numbers;
 use crate::scopes::{Files, Scope, Symbol};
-use asn1_notation_tree::{AssignmentKind, NamedNumber, Reference, ValueIndex, ValueKind};
+use asn1_notation_tree::{AssignmentKind, Name, NamedNumber, Reference, ValueIndex, ValueKind};
 
 /// How many references are followed from a value to its notation.
 const MOST_STEPS: usize = 64;
 
 /// A value, and the module in which it is written.
-#[derive(Clone, Copy)]
+#[derive(Clone, Copy, PartialEq, Eq, PartialOrd, Ord)]
 pub struct ValueUse {
     pub scope: Scope,
     pub index: ValueIndex,
@@ -15,7 +17,7 @@ pub struct ValueUse {
 
 impl ValueUse {
     /// An error at the value.
-    pub fn error(self, files: Files<'_, '_>, problem: Problem) -> NotationError {
+    pub fn error(self, files: &Files<'_, '_>, problem: Problem) -> NotationError {
         let place = match files.value_term(self.scope, self.index) {
             Ok(term) => term.place,
             Err(_) => 0,
@@ -34,36 +36,57 @@ pub fn named<'a>(numbers: &'a [NamedNumber], name: &str) -> Option<&'a NamedNumb
     None
 }
 
+/// The value that a name stands for (X.680 17.5, X.683 8.4), after the name of its module if that is given.
+pub fn referenced(
+    files: &Files<'_, '_>,
+    scope: Scope,
+    module: Option<&Name>,
+    name: &Name,
+) -> Result<ValueUse, NotationError> {
+    match given_for(files, scope, module, name) {
+        Some(Given::Value(at)) => return Ok(at),
+        Some(Given::Type(_)) => return Err(scope.error(name.place, Problem::UnknownValue)),
+        None => {}
+    }
+    let symbol = files.find(scope, module, name, Problem::UnknownValue)?;
+    value_of_symbol(files, symbol).map_err(|problem| scope.error(name.place, problem))
+}
+
 /// The value that a reference stands for (X.680 17.5).
-fn referenced(
-    files: Files<'_, '_>,
+fn next_of(
+    files: &Files<'_, '_>,
     scope: Scope,
     reference: &Reference,
 ) -> Result<ValueUse, NotationError> {
-    let place = reference.name.place;
-    let Some(symbol) = files.find(scope, reference) else {
-        return Err(scope.error(place, Problem::UnknownValue));
-    };
-    value_of_symbol(files, symbol).ok_or(scope.error(place, Problem::UnknownValue))
+    if !reference.parameters.is_empty() {
+        return Err(scope.error(reference.name.place, Problem::Parameterised));
+    }
+    referenced(files, scope, reference.module.as_ref(), &reference.name)
 }
 
 /// The value that an assignment defines.
-fn value_of_symbol(files: Files<'_, '_>, symbol: Symbol) -> Option<ValueUse> {
-    match &files.assignment(symbol)?.kind {
-        AssignmentKind::Value(_, index) => Some(ValueUse {
+fn value_of_symbol(files: &Files<'_, '_>, symbol: Symbol) -> Result<ValueUse, Problem> {
+    let Some(assignment) = files.assignment(symbol) else {
+        return Err(Problem::UnknownValue);
+    };
+    match &assignment.kind {
+        AssignmentKind::Value(..) if !assignment.parameters.is_empty() => {
+            Err(Problem::Parameterised)
+        }
+        AssignmentKind::Value(_, index) => Ok(ValueUse {
             scope: symbol.scope,
             index: *index,
         }),
-        _ => None,
+        _ => Err(Problem::UnknownValue),
     }
 }
 
 /// A value after its references (X.680 17.5).
-pub fn settled(files: Files<'_, '_>, start: ValueUse) -> Result<ValueUse, NotationError> {
+pub fn settled(files: &Files<'_, '_>, start: ValueUse) -> Result<ValueUse, NotationError> {
     let mut at = start;
     for _ in 0..MOST_STEPS {
         match &files.value_term(at.scope, at.index)?.kind {
-            ValueKind::Reference(reference) => at = referenced(files, at.scope, reference)?,
+            ValueKind::Reference(reference) => at = next_of(files, at.scope, reference)?,
             _ => return Ok(at),
         }
     }
@@ -71,7 +94,7 @@ pub fn settled(files: Files<'_, '_>, start: ValueUse) -> Result<ValueUse, Notati
 }
 
 /// A number, by itself or by the name of a value (X.680 19.9).
-pub fn number_of(files: Files<'_, '_>, start: ValueUse) -> Result<i128, NotationError> {
+pub fn number_of(files: &Files<'_, '_>, start: ValueUse) -> Result<i128, NotationError> {
     let at = settled(files, start)?;
     match files.value_term(at.scope, at.index)?.kind {
         ValueKind::Number(number) => Ok(number),
@@ -82,22 +105,44 @@ pub fn number_of(files: Files<'_, '_>, start: ValueUse) -> Result<i128, Notation
 /// A number of an INTEGER, by itself, by one of its own names, or by the name of a value (X.680 19.9 and 19.10). The
 /// names are those of a module.
 pub fn integer_of(
-    files: Files<'_, '_>,
+    files: &Files<'_, '_>,
     names: Scope,
     numbers: &[NamedNumber],
     value: ValueUse,
 ) -> Result<i128, NotationError> {
-    if let ValueKind::Reference(reference) = &files.value_term(value.scope, value.index)?.kind {
-        if let Some(number) = named(numbers, reference.name.text.as_str()) {
-            let index = number.number;
-            return number_of(
-                files,
-                ValueUse {
-                    scope: names,
-                    index,
-                },
-            );
+    let mut at = value;
+    for _ in 0..MOST_STEPS {
+        match &files.value_term(at.scope, at.index)?.kind {
+            ValueKind::Number(number) => return Ok(*number),
+            ValueKind::Reference(reference) => {
+                if let Some(number) = named(numbers, reference.name.text.as_str()) {
+                    let index = number.number;
+                    let scope = names;
+                    return number_of(files, ValueUse { scope, index });
+                }
+                at = next_of(files, at.scope, reference)?;
+            }
+            _ => return Err(value.error(files, Problem::ValueOfOtherType)),
         }
     }
-    number_of(files, value)
+    Err(value.error(files, Problem::Circular))
+}
+
+/// The number of an item of an ENUMERATED, by its name or by that of a value (X.680 20.8).
+pub fn item_of(
+    files: &Files<'_, '_>,
+    items: &Numbers<'_>,
+    value: ValueUse,
+) -> Result<isize, NotationError> {
+    let mut at = value;
+    for _ in 0..MOST_STEPS {
+        let ValueKind::Reference(reference) = &files.value_term(at.scope, at.index)?.kind else {
+            return Err(value.error(files, Problem::ValueOfOtherType));
+        };
+        if let Some(number) = items.find(reference.name.text.as_str()) {
+            return Ok(number);
+        }
+        at = next_of(files, at.scope, reference)?;
+    }
+    Err(value.error(files, Problem::Circular))
 }

@@ -1,56 +1,99 @@
 //! Defaults (X.680 25.9).
+ghost use Rattle.std.specs.Prelude.{◌≡◌, false, IfSome};
+ghost use Rattle.asn1_schema_constraints.specs.declared.bounds.Bounded.TheVariants.{Single};
+
+use crate::parts::alternatives_of;
 use asn1_notation_resolving::{
-    Base, Files, NotationError, Problem, TypeUse, ValueUse, base_of, integer_of, numbers_of,
-    settled,
+    Base, Files, NotationError, Problem, TypeUse, ValueUse, arcs_of, base_of, integer_of, item_of,
+    numbers_of, settled, sizes,
 };
-use asn1_notation_tree::{Element, Enumeration, NamedNumber, StringName, TypeKind, ValueKind};
+use asn1_notation_tree::{
+    Components, Element, Enumeration, ListElement, NamedNumber, StringName, TypeKind, ValueKind,
+};
+use asn1_schema_constraints::{Bounded, Sizes};
 use asn1_table_types::{DefaultValue, Event};
 use asn1_values_bit_strings::BitString;
+use asn1_values_identifiers::ObjectIdentifier;
 use asn1_values_integers::Integer;
 use std::alloc::Global;
+use std::borrow::CowSlice;
 use std::str;
+
+/// How many bits a default with named bits has at most.
+const MOST_BITS: usize = 65_536;
 
 /// Values of a type, and where they are written.
 #[derive(Clone, Copy)]
 struct Valued<'a, 'b, 'i> {
     alloc: Global,
-    files: Files<'a, 'i>,
+    files: &'b Files<'a, 'i>,
     base: &'b Base<'a>,
     value: ValueUse,
+    /// The size of a BIT STRING with named bits, if it is fixed.
+    size: Option<usize>,
 }
 
 /// The default of a component of a type.
-pub(crate) fn default_of(
+pub(crate) fn default_of<'a>(
     alloc: Global,
-    files: Files<'_, '_>,
-    base: &Base<'_>,
+    files: &mut Files<'a, '_>,
+    base: &Base<'a>,
     value: ValueUse,
 ) -> Result<DefaultValue, NotationError> {
     match &base.term.kind {
         TypeKind::SequenceOf(element) => {
-            let events = elements_of(alloc, files, base, element, value)?;
-            Ok(DefaultValue::SequenceOf(events))
+            let elements = elements_of(alloc, files, base, element, value)?;
+            Ok(DefaultValue::SequenceOf(elements))
         }
         TypeKind::SetOf(element) => {
-            let mut events = elements_of(alloc, files, base, element, value)?;
-            let last = events.pop();
-            if events.is_empty() {
-                return Ok(DefaultValue::SetOf(last));
+            let mut elements = elements_of(alloc, files, base, element, value)?;
+            let last = elements.pop();
+            if !elements.is_empty() {
+                return Err(value.error(files, Problem::UnsupportedDefault));
             }
-            Err(value.error(files, Problem::UnsupportedDefault))
+            match last {
+                None => Ok(DefaultValue::SetOf(None)),
+                Some(last) => Ok(DefaultValue::SetOf(Some(Box::new(alloc, last)?))),
+            }
         }
+        TypeKind::Choice(components) => chosen_of(alloc, files, base, components, value),
         _ => Ok(DefaultValue::Simple(event_of(alloc, files, base, value)?)),
     }
 }
 
-/// The elements of a list (X.680 26.3 and 28.3), each without parts.
-fn elements_of(
+/// The chosen alternative of a CHOICE and its value (X.680 29.11), which has no parts.
+fn chosen_of<'a>(
     alloc: Global,
-    files: Files<'_, '_>,
-    base: &Base<'_>,
+    files: &mut Files<'a, '_>,
+    base: &Base<'a>,
+    components: &'a Components,
+    value: ValueUse,
+) -> Result<DefaultValue, NotationError> {
+    let at = settled(files, value)?;
+    let ValueKind::Choice(name, index) = &files.value_term(at.scope, at.index)?.kind else {
+        return Err(value.error(files, Problem::ValueOfOtherType));
+    };
+    let alternatives = alternatives_of(alloc, files, base.at.scope, components)?;
+    let Some((chosen, part)) = alternatives.find(name.text.as_str()) else {
+        return Err(at.scope.error(name.place, Problem::UnknownValue));
+    };
+    let base = base_of(alloc, files, part.at)?;
+    let inner = ValueUse {
+        scope: at.scope,
+        index: *index,
+    };
+    let simple = DefaultValue::Simple(event_of(alloc, files, &base, inner)?);
+    Ok(DefaultValue::Choice(chosen, Box::new(alloc, simple)?))
+}
+
+/// The elements of a list (X.680 26.3 and 28.3), each without parts.
+fn elements_of<'a>(
+    alloc: Global,
+    files: &mut Files<'a, '_>,
+    base: &Base<'a>,
     element: &Element,
     value: ValueUse,
-) -> Result<Vec<Event>, NotationError> {
+) -> Result<Vec<DefaultValue>, NotationError> {
     let at = settled(files, value)?;
     let ValueKind::List(elements) = &files.value_term(at.scope, at.index)?.kind else {
         return Err(value.error(files, Problem::ValueOfOtherType));
@@ -60,29 +103,48 @@ fn elements_of(
         index: element.element,
     };
     let base = base_of(alloc, files, of)?;
-    let mut events = Vec::new(alloc);
+    let mut values = Vec::new(alloc);
     for one in elements {
         let one = ValueUse {
             scope: at.scope,
             index: one.value,
         };
-        events.push(event_of(alloc, files, &base, one)?)?;
+        let event = event_of(alloc, files, &base, one)?;
+        values.push(DefaultValue::Simple(event))?;
     }
-    Ok(events)
+    Ok(values)
+}
+
+/// The size, if it is fixed.
+pub(crate) fn fixed_size(sizes: &Sizes) -> Option<usize>
+    ensures root { IfSome result (λ size. sizes.now.root ≡ Single size) }
+    ensures closed { IfSome result (λ _. sizes.now.is_extensible ≡ false) }
+{
+    match sizes.root {
+        Bounded::Single(size) if !sizes.is_extensible => Some(size),
+        _ => None,
+    }
 }
 
 /// A value without parts, of a type.
-fn event_of(
+fn event_of<'a>(
     alloc: Global,
-    files: Files<'_, '_>,
-    base: &Base<'_>,
+    files: &mut Files<'a, '_>,
+    base: &Base<'a>,
     value: ValueUse,
 ) -> Result<Event, NotationError> {
+    let size = match &base.term.kind {
+        TypeKind::BitString(names) if !names.is_empty() => {
+            fixed_size(&sizes(alloc, files, base)?)
+        }
+        _ => None,
+    };
     let valued = Valued {
         alloc,
         files,
         base,
         value,
+        size,
     };
     match &base.term.kind {
         TypeKind::Boolean => valued.truth(),
@@ -92,6 +154,7 @@ fn event_of(
         TypeKind::BitString(names) => valued.bits(names.as_slice()),
         TypeKind::OctetString => valued.octets(),
         TypeKind::CharacterString(name) => valued.text(*name),
+        TypeKind::ObjectIdentifier => valued.arcs(),
         _ => Err(valued.error(Problem::UnsupportedDefault)),
     }
 }
@@ -121,45 +184,90 @@ impl Valued<'_, '_, '_> {
     fn item(self, items: &Enumeration) -> Result<Event, NotationError> {
         let scope = self.base.at.scope;
         let numbers = numbers_of(self.alloc, self.files, scope, items)?;
-        let term = self.files.value_term(self.value.scope, self.value.index)?;
-        let ValueKind::Reference(reference) = &term.kind else {
-            return Err(self.error(Problem::ValueOfOtherType));
-        };
-        let name = reference.name.text.as_str();
-        for item in &numbers.root {
-            if item.name.text.as_str() == name {
-                return Ok(Event::Item(item.number));
-            }
-        }
-        for item in &numbers.additions {
-            if item.name.text.as_str() == name {
-                return Ok(Event::Item(item.number));
-            }
-        }
-        Err(self.error(Problem::UnknownValue))
+        Ok(Event::Item(item_of(self.files, &numbers, self.value)?))
     }
 
-    /// A value of BIT STRING (X.680 22.9): a bstring, an hstring, or no named bit.
+    /// A value of BIT STRING (X.680 22.9): a bstring, an hstring, or named bits.
     fn bits(self, names: &[NamedNumber]) -> Result<Event, NotationError> {
         let at = settled(self.files, self.value)?;
-        let mut bits = BitString::new(self.alloc);
+        let mut all = Vec::new(self.alloc);
         match &self.files.value_term(at.scope, at.index)?.kind {
             ValueKind::Binary(digits) => {
                 for digit in digits {
-                    bits.push(*digit == 1)?;
+                    all.push(*digit == 1)?;
                 }
             }
             ValueKind::Hexadecimal(digits) => {
                 for digit in digits {
                     for weight in [8, 4, 2, 1] {
-                        bits.push(digit & weight != 0)?;
+                        all.push(digit & weight != 0)?;
                     }
                 }
             }
-            ValueKind::List(elements) if elements.is_empty() && names.is_empty() => {}
-            _ => return Err(self.error(Problem::UnsupportedDefault)),
+            ValueKind::List(elements) => {
+                self.set_named(at, elements.as_slice(), names, &mut all)?;
+            }
+            _ => return Err(self.error(Problem::ValueOfOtherType)),
+        }
+        if !names.is_empty() {
+            self.fit(&mut all)?;
+        }
+        let mut bits = BitString::new(self.alloc);
+        for bit in &all {
+            bits.push(*bit)?;
         }
         Ok(Event::Bits(bits))
+    }
+
+    /// Sets named bits (X.680 22.10).
+    fn set_named(
+        self,
+        at: ValueUse,
+        elements: &[ListElement],
+        names: &[NamedNumber],
+        bits: &mut Vec<bool>,
+    ) -> Result<(), NotationError> {
+        if elements.is_empty() {
+            return Ok(());
+        }
+        self.fit(bits)?;
+        for element in elements {
+            let bit = ValueUse {
+                scope: at.scope,
+                index: element.value,
+            };
+            let number = integer_of(self.files, self.base.at.scope, names, bit)?;
+            let place = usize::try_from(number).ok();
+            match place.and_then(|place| bits.get_mut(place)) {
+                Some(bit) => *bit = true,
+                None => return Err(bit.error(self.files, Problem::ValueOfOtherType)),
+            }
+        }
+        Ok(())
+    }
+
+    /// Adds zeros to bits, or removes them from their end, up to the fixed size of the type (X.680 22.7).
+    fn fit(self, bits: &mut Vec<bool>) -> Result<(), NotationError> {
+        let Some(size) = self.size else {
+            return Err(self.base.error(Problem::NamedBits));
+        };
+        if size > MOST_BITS {
+            return Err(self.error(Problem::UnsupportedDefault));
+        }
+        let is_longer = bits.iter().skip(size).any(|bit| *bit);
+        if !is_longer {
+            bits.resize(size, false)?;
+        }
+        Ok(())
+    }
+
+    /// A value of OBJECT IDENTIFIER (X.680 32.3).
+    fn arcs(self) -> Result<Event, NotationError> {
+        let arcs = arcs_of(self.alloc, self.files, self.value)?;
+        match ObjectIdentifier::new(CowSlice::Owned(arcs)) {
+            Some(identifier) => Ok(Event::Arcs(identifier)),
+            None => Err(self.error(Problem::ValueOfOtherType)),
+        }
     }
 
     /// A value of a character string (X.680 41.8): its characters by their numbers, or its octets in UTF-8.

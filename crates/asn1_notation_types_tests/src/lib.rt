@@ -2,8 +2,14 @@
 #![tactic(auto)]
 
 #[cfg(test)]
+mod defaults;
+#[cfg(test)]
 mod describing;
 #[cfg(test)]
+mod parameters;
+#[cfg(test)]
 mod refused;
+#[cfg(test)]
+mod suggested;
 #[cfg(test)]
 mod tables;

@@ -1,20 +1,44 @@
 //! Modules without a table for their type T: what is wrong, and where.
 use asn1_notation_syntax::{Syntax, read_syntax};
 use asn1_notation_types::{Additions, Problem, table_of};
+use asn1_table_types::Flaw;
 use std::alloc::Global;
 
 /// What is before the assignments.
 const BEGIN: &str = "M DEFINITIONS ::= BEGIN ";
 
 /// Assignments, what is wrong, and the octet from there on.
-const ROWS: [(&str, Problem, usize); 15] = [
+const ROWS: [(&str, Problem, usize); 29] = [
     ("T ::= A", Problem::UnknownType, 6),
     ("T ::= INTEGER (0..v)", Problem::UnknownValue, 18),
     ("T ::= A A ::= T", Problem::Circular, 6),
+    ("T ::= A A {V} ::= V", Problem::Parameters, 6),
+    ("T ::= A {NULL, NULL} A {V} ::= V", Problem::Parameters, 6),
+    ("T ::= A {5} A {V} ::= V", Problem::Parameters, 6),
     (
-        "T ::= A {5} A {INTEGER: n} ::= INTEGER (0..n)",
+        "T ::= A {{1 | 2}} A {INTEGER: Set} ::= INTEGER (Set)",
+        Problem::ParameterKind,
+        9,
+    ),
+    (
+        "T ::= A {C} C ::= CLASS {&id INTEGER} A {D} ::= NULL",
+        Problem::ParameterKind,
+        9,
+    ),
+    (
+        "T ::= INTEGER (0..n {5}) n {INTEGER: m} INTEGER ::= m",
         Problem::Parameterised,
-        6,
+        18,
+    ),
+    (
+        "T ::= SEQUENCE OF A {NULL} A {V} ::= SEQUENCE OF A {SEQUENCE OF V}",
+        Problem::TooDeep,
+        49,
+    ),
+    (
+        "T ::= A {NULL} A {V} ::= SEQUENCE {a A {SEQUENCE OF V}, b A {SET OF V}}",
+        Problem::TooManyInstances,
+        58,
     ),
     ("T ::= BIT STRING {a(0)}", Problem::NamedBits, 6),
     (
@@ -51,6 +75,41 @@ const ROWS: [(&str, Problem, usize); 15] = [
     ("T ::= ENUMERATED {a(1), b(1)}", Problem::ItemNumber, 24),
     ("T ::= SET {a NULL, b NULL}", Problem::TagTwice, 19),
     ("T ::= UniversalString", Problem::UnsupportedType, 6),
+    (
+        "T ::= SEQUENCE OF A A ::= CHOICE {a [0] NULL, ..., b [0] NULL}",
+        Problem::Unlawful(Flaw::TagTwice),
+        26,
+    ),
+    (
+        "T ::= SEQUENCE {a NULL, b INTEGER (0..7) DEFAULT 8}",
+        Problem::Unlawful(Flaw::DefaultOfOtherType),
+        6,
+    ),
+    (
+        "T ::= SEQUENCE {..., [[a NULL, b INTEGER (0..7) DEFAULT 8]]}",
+        Problem::Unlawful(Flaw::DefaultOfOtherType),
+        31,
+    ),
+    (
+        "T ::= SEQUENCE {a CHOICE {b NULL} DEFAULT c : NULL}",
+        Problem::UnknownValue,
+        42,
+    ),
+    (
+        "T ::= SEQUENCE {a OBJECT IDENTIFIER DEFAULT {2 5 4294967296}}",
+        Problem::ArcOutOfRange,
+        49,
+    ),
+    (
+        "T ::= SEQUENCE {a OBJECT IDENTIFIER DEFAULT v} v OBJECT IDENTIFIER ::= {v 1}",
+        Problem::Circular,
+        72,
+    ),
+    (
+        "T ::= SEQUENCE {a BIT STRING {p(0), q(9)} (SIZE (5)) DEFAULT {q}}",
+        Problem::ValueOfOtherType,
+        62,
+    ),
 ];
 
 /// The syntax of a module with some assignments.

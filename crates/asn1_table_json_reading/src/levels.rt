@@ -3,8 +3,8 @@
 
 use crate::errors::JsonErrorKind;
 use asn1_schema_tags::Chosen;
-use asn1_table_json_writing::{alternative_label, part_label};
 use asn1_table_names::{Names, Part};
+use asn1_table_paths::{Step, push_step};
 use asn1_table_types::Types;
 use std::alloc::{AllocError, Global};
 
@@ -159,11 +159,12 @@ impl Levels {
     ) -> Result<String, AllocError> {
         let mut path = String::new(alloc);
         for level in self.open.iter() {
-            push_step(alloc, types, names, &mut path, level)?;
+            if let Some(step) = step_into(level) {
+                push_step(alloc, types, names, &mut path, step)?;
+            }
         }
-        match member {
-            Some(label) => push_label(&mut path, label)?,
-            None => {}
+        if let Some(label) = member {
+            push_step(alloc, types, names, &mut path, Step::Named(label))?;
         }
         Ok(path)
     }
@@ -187,42 +188,19 @@ fn after_value(level: Level) -> Level {
     }
 }
 
-/// The step of a path into an array or object.
-fn push_step(
-    alloc: Global,
-    types: &Types,
-    names: &Names,
-    path: &mut String,
-    level: &Level,
-) -> Result<(), AllocError> {
+/// The step of a path into an array or object, if something in it is read.
+fn step_into(level: &Level) -> Option<Step<'static>> {
     match level {
-        Level::Elements { next } => write!(path, "[{next}]"),
+        Level::Elements { next } => Some(Step::Element(*next)),
         Level::Members {
             place,
             awaited: Some(part),
-        } => {
-            let name = names.part_name(types, *place, *part);
-            push_label(path, part_label(alloc, name, *part)?.as_str())
-        }
+        } => Some(Step::Component(*place, *part)),
         Level::Alternative {
             place,
             state: Choosing::Named(chosen),
-        } => {
-            let name = names.alternative_name(*place, *chosen);
-            push_label(path, alternative_label(alloc, name, *chosen)?.as_str())
-        }
-        Level::Bits(members) => match members.awaited {
-            Some(member) => push_label(path, member.label()),
-            None => Ok(()),
-        },
-        _ => Ok(()),
+        } => Some(Step::Alternative(*place, *chosen)),
+        Level::Bits(members) => Some(Step::Named(members.awaited?.label())),
+        _ => None,
     }
-}
-
-/// A name, after a dot unless it is the first step.
-fn push_label(path: &mut String, label: &str) -> Result<(), AllocError> {
-    if !path.is_empty() {
-        path.push('.')?;
-    }
-    path.push_str(label)
 }

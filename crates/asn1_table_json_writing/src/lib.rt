@@ -20,6 +20,7 @@ mod sizes;
 mod strings;
 mod writing;
 
+pub use decimals::number_text;
 pub use errors::WriteError;
 pub use labels::{alternative_label, part_label};
 pub use output::Style;

@@ -18,9 +18,13 @@ pub struct TableRelay<'a> {
 }
 
 impl<'a> Model for TableRelay<'a> {
+    ghost use Rattle.std.specs.Coded.{codes};
     ghost use Rattle.asn1_table_relay.specs.Streams.{TableRelaying};
+    ghost use Rattle.asn1_table_types.specs.contracts.events.DefaultValue as default;
 
     ghost Value = { TableRelaying };
+
+    ghost coded = { Prim.hlevel (codes, default.the_row.coded) };
 
     ghost view = { λ r. record {
       nodes = r.relay.message_type.types.now.nodes.items;

@@ -21,9 +21,15 @@ fn arcs(alloc: Global) -> Result<Presence, AllocError> {
     Ok(Presence::Default(DefaultValue::Simple(Event::Arcs(arcs))))
 }
 
+/// A value of BOOLEAN.
+fn truth(value: bool) -> DefaultValue {
+    DefaultValue::Simple(Event::Truth(value))
+}
+
 /// {TRUE, FALSE}.
 fn both(alloc: Global) -> Result<Presence, AllocError> {
-    let both = Vec::from_array(alloc, [Event::Truth(true), Event::Truth(false)])?;
+    let both = [truth(true), truth(false)];
+    let both = Vec::from_array(alloc, both)?;
     Ok(Presence::Default(DefaultValue::SequenceOf(both)))
 }
 
@@ -44,9 +50,10 @@ fn components(alloc: Global) -> Result<Vec<Component>, AllocError> {
     all.push(part(alloc, 1, arcs(alloc)?, 2)?)?;
     all.push(by_default(alloc, 2, DefaultValue::SequenceOf(Vec::new(alloc)), 3)?)?;
     all.push(part(alloc, 3, both(alloc)?, 3)?)?;
-    all.push(by_default(alloc, 4, DefaultValue::SetOf(Some(Event::Truth(true))), 4)?)?;
-    let truth = DefaultValue::Choice(Chosen::root(0), Event::Truth(true));
-    all.push(by_default(alloc, 5, truth, 5)?)?;
+    let element = Some(Box::new(alloc, truth(true))?);
+    all.push(by_default(alloc, 4, DefaultValue::SetOf(element), 4)?)?;
+    let chosen = DefaultValue::Choice(Chosen::root(0), Box::new(alloc, truth(true))?);
+    all.push(by_default(alloc, 5, chosen, 5)?)?;
     Ok(all)
 }
 

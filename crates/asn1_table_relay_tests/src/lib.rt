@@ -12,4 +12,6 @@ mod defaults;
 #[cfg(test)]
 mod messages;
 #[cfg(test)]
+mod nested_defaults;
+#[cfg(test)]
 mod streams;

@@ -2,6 +2,7 @@ pub mod Nodes
 pub mod ScalarRecords
 mod Replays
 mod Shapes
-mod Steps
+mod Kept
+mod Behind
 mod DefaultLaws
 mod Leaving

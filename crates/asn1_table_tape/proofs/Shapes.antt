@@ -1,6 +1,6 @@
 -- The records of a value: what each says, and what the first one says of the value.
 use Rattle.std.proofs.Common.{◌≡◌, refl, sym, subst, ℕ, ℤ, Bool, true, false, not, List, [], ◌∷◌, Option, Some, None, slice_get}
-use Rattle.asn1_model.specs.Value.{Value, truth, nothing, number, item, bit_list, octet_list, text, arcs, members, bag, fields, chosen, Parts, end, same}
+use Rattle.asn1_model.specs.Value.{Value, truth, nothing, number, item, bit_list, octet_list, text, arcs, members, bag, fields, chosen, Parts, end}
 use Rattle.asn1_model.specs.Schema.{Schema, cut, boolean, null, integer, enumerated, bit_string, octet_string, character_string, object_identifier}
 use Rattle.asn1_model.specs.Schema.{sequence_of, set_of, sequence, set, group, choice, Components}
 use Rattle.asn1_model.specs.Lawful.{member_count, alternative_tags}
@@ -10,9 +10,6 @@ use Rattle.asn1_schema_laws.specs.Presents.{presents, member_records, root_recor
 use Rattle.asn1_schema_tags.specs.Chosen.{ChoiceTags}
 use Rattle.asn1_schema_tags.specs.declared.chosen.Chosen.{Chosen}
 use Rattle.asn1_table_types.specs.Choices.{tags_at}
-use Rattle.asn1_table_types.specs.Values.{scalar_of}
-use Rattle.asn1_table_types.specs.declared.events.Event.{Event as Scalar}
-use Rattle.asn1_table_types.specs.declared.events.Event.TheVariants as scalar
 use Rattle.asn1_table_types.specs.declared.nodes.TypeNode.{TypeNode}
 use Rattle.asn1_table_types.specs.declared.nodes.TypeNode.TheVariants as node
 use Rattle.asn1_table_tape.specs.declared.strings.CharacterString.{CharacterString}
@@ -144,12 +141,20 @@ mark_of ns e = elim e as (λ e. mark (record_of ns e) ≡ mark_in e) [
 
 -- ---- the first record of a value
 
+-- a value without parts
+abbrev pub is_single : Value → Bool
+is_single (members vs) = false
+is_single (bag vs) = false
+is_single (fields ps qs) = false
+is_single (chosen b i v) = false
+is_single v = true
+
 pub data Shape (rs : List Record) (w : Value) : Type 0 where
   single : (r : Record) → rs ≡ r ∷ [] → payload r ≡ Some w → is_off r ≡ false → Shape rs w
-  begun : (r : Record) (qs : List Record) → rs ≡ r ∷ qs → payload r ≡ None → is_off r ≡ false → ((d : Scalar) → same w (scalar_of d) ≡ false) → Shape rs w
+  begun : (r : Record) (qs : List Record) → rs ≡ r ∷ qs → payload r ≡ None → is_off r ≡ false → is_single w ≡ false → Shape rs w
 
 pub shape : (s : Schema) (v : Value) → Fits s v → Shape (presents s v) v
-unfolding presents Fits payload is_off same
+unfolding presents Fits payload is_off
 shape s v = elim s as (λ s. Fits s v → Shape (presents s v) v) [
   | boolean ↦ elim v as (λ v. Fits boolean v → Shape (presents boolean v) v) [ truth b ↦ λ f. single (flag b) refl refl refl | _ ↦ λ f. absurd f ]
   | null ↦ elim v as (λ v. Fits null v → Shape (presents null v) v) [ nothing ↦ λ f. single nil refl refl refl | _ ↦ λ f. absurd f ]
@@ -169,23 +174,19 @@ shape s v = elim s as (λ s. Fits s v → Shape (presents s v) v) [
   ]
   | object_identifier ↦ elim v as (λ v. Fits object_identifier v → Shape (presents object_identifier v) v) [ arcs ns ↦ λ f. single (identifier ns) refl refl refl | _ ↦ λ f. absurd f ]
   | sequence_of z h t ↦ elim v as (λ v. Fits (sequence_of z h t) v → Shape (presents (sequence_of z h t) v) v) [
-    | members vs ↦ λ f. begun (list_begins z h (member_count vs)) (member_records (λ v. presents t v) vs) refl refl refl
-        (λ d. elim d as (λ d. same (members vs) (scalar_of d) ≡ false) [ scalar.Nothing ↦ refl | _ ↦ refl ])
+    | members vs ↦ λ f. begun (list_begins z h (member_count vs)) (member_records (λ v. presents t v) vs) refl refl refl refl
     | _ ↦ λ f. absurd f
   ]
   | set_of z h t ↦ elim v as (λ v. Fits (set_of z h t) v → Shape (presents (set_of z h t) v) v) [
-    | bag vs ↦ λ f. begun (bag_begins z h (member_count vs)) (member_records (λ v. presents t v) vs) refl refl refl
-        (λ d. elim d as (λ d. same (bag vs) (scalar_of d) ≡ false) [ scalar.Nothing ↦ refl | _ ↦ refl ])
+    | bag vs ↦ λ f. begun (bag_begins z h (member_count vs)) (member_records (λ v. presents t v) vs) refl refl refl refl
     | _ ↦ λ f. absurd f
   ]
   | sequence cs e adds ↦ elim v as (λ v. Fits (sequence cs e adds) v → Shape (presents (sequence cs e adds) v) v) [
-    | fields ps qs ↦ λ f. begun (sequence_begins e (optional_count cs)) (root_records cs ps (behind_root e adds (added_records adds qs))) refl refl refl
-        (λ d. elim d as (λ d. same (fields ps qs) (scalar_of d) ≡ false) [ scalar.Nothing ↦ refl | _ ↦ refl ])
+    | fields ps qs ↦ λ f. begun (sequence_begins e (optional_count cs)) (root_records cs ps (behind_root e adds (added_records adds qs))) refl refl refl refl
     | _ ↦ λ f. absurd f
   ]
   | set cs e adds ↦ elim v as (λ v. Fits (set cs e adds) v → Shape (presents (set cs e adds) v) v) [
-    | fields ps qs ↦ λ f. begun (set_begins e (optional_count cs)) (root_records cs ps (behind_root e adds (added_records adds qs))) refl refl refl
-        (λ d. elim d as (λ d. same (fields ps qs) (scalar_of d) ≡ false) [ scalar.Nothing ↦ refl | _ ↦ refl ])
+    | fields ps qs ↦ λ f. begun (set_begins e (optional_count cs)) (root_records cs ps (behind_root e adds (added_records adds qs))) refl refl refl refl
     | _ ↦ λ f. absurd f
   ]
   | group cs ↦ elim v as (λ v. Fits (group cs) v → Shape (presents (group cs) v) v) [
@@ -194,10 +195,8 @@ shape s v = elim s as (λ s. Fits s v → Shape (presents s v) v) [
   ]
   | choice rs e adds ↦ elim v as (λ v. Fits (choice rs e adds) v → Shape (presents (choice rs e adds) v) v) [
     | chosen b i w ↦ elim b as (λ b. Fits (choice rs e adds) (chosen b i w) → Shape (presents (choice rs e adds) (chosen b i w)) (chosen b i w)) [
-      | true ↦ λ f. begun (choice_begins (alternative_tags rs) e (alternative_tags adds) true i) _ refl refl refl
-          (λ d. elim d as (λ d. same (chosen true i w) (scalar_of d) ≡ false) [ scalar.Nothing ↦ refl | _ ↦ refl ])
-      | false ↦ λ f. begun (choice_begins (alternative_tags rs) e (alternative_tags adds) false i) _ refl refl refl
-          (λ d. elim d as (λ d. same (chosen false i w) (scalar_of d) ≡ false) [ scalar.Nothing ↦ refl | _ ↦ refl ])
+      | true ↦ λ f. begun (choice_begins (alternative_tags rs) e (alternative_tags adds) true i) _ refl refl refl refl
+      | false ↦ λ f. begun (choice_begins (alternative_tags rs) e (alternative_tags adds) false i) _ refl refl refl refl
     ]
     | _ ↦ λ f. absurd f
   ]
@@ -206,5 +205,4 @@ shape s v = elim s as (λ s. Fits s v → Shape (presents s v) v) [
   where
     group_shape : (cs : Components) (ps qs : Parts) → qs ≡ end → Shape (presents (group cs) (fields ps qs)) (fields ps qs)
     group_shape cs ps qs e = subst (λ (qs : Parts). Shape (presents (group cs) (fields ps qs)) (fields ps qs)) (sym e)
-        (begun (group_begins (optional_count cs)) (root_records cs ps (ends ∷ [])) refl refl refl
-        (λ d. elim d as (λ d. same (fields ps end) (scalar_of d) ≡ false) [ scalar.Nothing ↦ refl | _ ↦ refl ]))
+        (begun (group_begins (optional_count cs)) (root_records cs ps (ends ∷ [])) refl refl refl refl)

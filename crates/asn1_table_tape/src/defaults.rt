@@ -1,215 +1,223 @@
 //! Whether records are the value of a default (X.680 25).
 #![tactic(auto, using(std::proofs::lemmas::Grind::common_steps))]
 
-ghost use Rattle.std.specs.Prelude.{◌≡◌, ◌==◌, true, false, List, [], ◌∷◌, MatchOption};
+ghost use Rattle.std.specs.Prelude.{◌≡◌, ◌==◌, true, false, is_some, map, option_and_then};
+ghost use Rattle.std.specs.Option.{option_copied};
 ghost use lib.Pointwise.{pointwise};
+ghost use Rattle.asn1_model.specs.Value.{member, no_more, values_of};
 ghost use Rattle.asn1_table_tape.specs.Strings.{text_of};
-ghost use Rattle.asn1_table_tape.specs.Values.{is_scalar, is_simple, is_list, is_choice, is_alternative, is_value};
-ghost use Rattle.asn1_table_tape.specs.Values.{are_elements, is_list_end, is_only_end, is_opening, is_next, is_last};
-ghost use Rattle.asn1_table_tape.specs.Values.{is_end, is_chosen};
-ghost use Rattle.asn1_table_tape.specs.declared.tape.Event.{Event as Record};
-ghost use Rattle.asn1_table_types.specs.Values.{list_of};
-ghost use Rattle.asn1_table_types.specs.declared.events.Event.{Event as Scalar};
+ghost use Rattle.asn1_table_tape.specs.Values.{is_scalar, has_mark, behind_event, behind_value, behind_members};
+ghost use Rattle.asn1_table_types.specs.Values.{list_of, scalar_of, value_of};
 
 use crate::strings::CharacterString;
 use crate::tape::Event;
 use asn1_schema_tags::Chosen;
 use asn1_table_types::{DefaultValue, Event as Scalar};
 
+/// What a record says beside values without parts.
+#[derive(Clone, Copy)]
+pub enum Mark {
+    /// A list begins.
+    Opens,
+    /// Whether another element follows.
+    More(bool),
+    /// A CHOICE begins, with this alternative.
+    Picks(Chosen),
+    /// A value with parts ends.
+    Closes,
+}
+
 /// Whether records are the value of a default.
 pub fn is_value(default: &DefaultValue, value: &[Event]) -> bool
-    ensures { result ≡ is_value default.now value.now }
+    ensures { result ≡ is_some (behind_value (value_of default.now) value.now) }
+{
+    behind(default, value).is_some()
+}
+
+// The records after the value of a default, if they begin with it.
+#[cycle(behind)]
+fn behind<'a>(default: &DefaultValue, value: &'a [Event]) -> Option<&'a [Event]>
+    ensures { option_copied result ≡ behind_value (value_of default.now) value.now }
 {
     match default {
-        DefaultValue::Simple(simple) => is_simple(simple, value),
-        DefaultValue::SequenceOf(elements) => is_list(elements.as_slice(), value),
-        DefaultValue::SetOf(element) => is_bag(element, value),
-        DefaultValue::Choice(chosen, simple) => is_choice(*chosen, simple, value),
+        DefaultValue::Simple(simple) => behind_scalar(simple, value),
+        DefaultValue::SequenceOf(elements) => behind_list(elements.as_slice(), value),
+        DefaultValue::SetOf(element) => behind_bag(element, value),
+        DefaultValue::Choice(chosen, inner) => behind_choice(*chosen, inner, value),
     }
 }
 
-// Whether records are one value without parts.
-fn is_simple(simple: &Scalar, value: &[Event]) -> bool
-    ensures { result ≡ is_simple simple.now value.now }
+// The records after a SEQUENCE OF of these elements.
+#[cycle(behind)]
+fn behind_list<'a>(elements: &[DefaultValue], value: &'a [Event]) -> Option<&'a [Event]>
+    ensures { option_copied result
+        ≡ option_and_then (λ rest. behind_members (values_of (map value_of elements.now)) rest)
+        (behind_event (has_mark Mark.Opens) value.now) }
 {
-    value.len() == 1 && is_same(simple, &value[0])
-}
-
-// Whether records are a list of these elements.
-fn is_list(elements: &[Scalar], value: &[Event]) -> bool
-    ensures { result ≡ is_list elements.now value.now }
-{
-    match value.split_first() {
-        Some((first, rest)) => is_opening(first) && are_elements(elements, rest),
-        None => false,
+    match behind_mark(Mark::Opens, value) {
+        None => None,
+        Some(rest) => behind_elements(elements, rest),
     }
 }
 
-// Whether records are a list of this element, or of none.
-fn is_bag(element: &Option<Scalar>, value: &[Event]) -> bool
-    ensures { result ≡ is_list (list_of element.now) value.now }
-{
-    match value.split_first() {
-        Some((first, rest)) => is_opening(first) && is_element(element, rest),
-        None => false,
-    }
-}
-
-// Whether records are the rest of a list after its beginning, with these elements.
-fn are_elements(elements: &[Scalar], value: &[Event]) -> bool
-    ensures { result ≡ are_elements elements.now value.now }
+// The records after the rest of a list, with these elements.
+#[cycle(behind)]
+fn behind_elements<'a>(elements: &[DefaultValue], value: &'a [Event]) -> Option<&'a [Event]>
+    ensures { option_copied result ≡ behind_members (values_of (map value_of elements.now)) value.now }
 {
     let mut rest = value;
     for element in elements {
         match behind_element(element, rest) {
             Some(others) => rest = others,
-            None => return false,
+            None => return None,
         }
     }
-    is_list_end(rest)
+    behind_list_end(rest)
 }
 
-// The same of this element, or of none.
-fn is_element(element: &Option<Scalar>, value: &[Event]) -> bool
-    ensures { result ≡ are_elements (list_of element.now) value.now }
+// The records after a SET OF of this element, or of none.
+#[cycle(behind)]
+fn behind_bag<'a>(element: &Option<Box<DefaultValue>>, value: &'a [Event]) -> Option<&'a [Event]>
+    ensures { option_copied result
+        ≡ option_and_then (λ rest. behind_members (values_of (map value_of (list_of element.now))) rest)
+        (behind_event (has_mark Mark.Opens) value.now) }
+{
+    match behind_mark(Mark::Opens, value) {
+        None => None,
+        Some(rest) => behind_only(element, rest),
+    }
+}
+
+// The records after the rest of a list, with this element, or with none.
+#[cycle(behind)]
+fn behind_only<'a>(element: &Option<Box<DefaultValue>>, value: &'a [Event]) -> Option<&'a [Event]>
+    ensures { option_copied result ≡ behind_members (values_of (map value_of (list_of element.now))) value.now }
 {
     match element {
-        None => is_list_end(value),
-        Some(simple) => is_single(simple, value),
+        None => behind_list_end(value),
+        Some(element) => behind_single(element, value),
     }
 }
 
-// The same of this element alone.
-fn is_single(element: &Scalar, value: &[Event]) -> bool
-    ensures { result ≡ are_elements (element.now ∷ []) value.now }
+// The same with this element.
+#[cycle(behind)]
+fn behind_single<'a>(element: &DefaultValue, value: &'a [Event]) -> Option<&'a [Event]>
+    ensures { option_copied result ≡ behind_members (member (value_of element.now) no_more) value.now }
 {
     match behind_element(element, value) {
-        Some(rest) => is_list_end(rest),
-        None => false,
+        None => None,
+        Some(rest) => behind_list_end(rest),
     }
 }
 
-// The records after those of the next element of a list, if it is this one.
-fn behind_element<'a>(element: &Scalar, value: &'a [Event]) -> Option<&'a [Event]>
-    ensures { MatchOption result ((ds : List Scalar) → are_elements (element.now ∷ ds) value.now ≡ false)
-        (λ rest. (ds : List Scalar) → are_elements (element.now ∷ ds) value.now ≡ are_elements ds rest.now) }
+// The records after the next element of a list, if it is this one.
+#[cycle(behind)]
+fn behind_element<'a>(element: &DefaultValue, value: &'a [Event]) -> Option<&'a [Event]>
+    ensures { option_copied result ≡ option_and_then (λ rest. behind_value (value_of element.now) rest)
+        (behind_event (has_mark (Mark.More true)) value.now) }
+{
+    match behind_mark(Mark::More(true), value) {
+        None => None,
+        Some(rest) => behind(element, rest),
+    }
+}
+
+// The records after a CHOICE with this alternative and value.
+#[cycle(behind)]
+fn behind_choice<'a>(
+    chosen: Chosen,
+    inner: &DefaultValue,
+    value: &'a [Event],
+) -> Option<&'a [Event]>
+    ensures { option_copied result ≡ option_and_then
+        (λ rest. option_and_then (λ others. behind_event (has_mark Mark.Closes) others)
+        (behind_value (value_of inner.now) rest)) (behind_event (has_mark (Mark.Picks chosen)) value.now) }
+{
+    match behind_mark(Mark::Picks(chosen), value) {
+        None => None,
+        Some(rest) => behind_chosen(inner, rest),
+    }
+}
+
+// The records after this value and the end of a CHOICE.
+#[cycle(behind)]
+fn behind_chosen<'a>(inner: &DefaultValue, value: &'a [Event]) -> Option<&'a [Event]>
+    ensures { option_copied result ≡ option_and_then (λ others. behind_event (has_mark Mark.Closes) others)
+        (behind_value (value_of inner.now) value.now) }
+{
+    match behind(inner, value) {
+        None => None,
+        Some(rest) => behind_mark(Mark::Closes, rest),
+    }
+}
+
+// The records after the end of a list.
+fn behind_list_end(value: &[Event]) -> Option<&[Event]>
+    ensures { option_copied result ≡ option_and_then (λ rest. behind_event (has_mark Mark.Closes) rest)
+        (behind_event (has_mark (Mark.More false)) value.now) }
+{
+    match behind_mark(Mark::More(false), value) {
+        None => None,
+        Some(rest) => behind_mark(Mark::Closes, rest),
+    }
+}
+
+// The records after the first, if that is this value without parts.
+fn behind_scalar<'a>(simple: &Scalar, value: &'a [Event]) -> Option<&'a [Event]>
+    ensures { option_copied result ≡ behind_event (is_scalar (scalar_of simple.now)) value.now }
 {
     match value.split_first() {
-        Some((further, rest)) => {
-            if !is_next(further) {
-                return None;
+        Some((first, rest)) => {
+            if is_same(simple, first) {
+                Some(rest)
+            } else {
+                None
             }
-            behind_event(element, rest)
         }
         None => None,
     }
 }
 
-// The records after that of an element, if it is this one.
-fn behind_event<'a>(element: &Scalar, value: &'a [Event]) -> Option<&'a [Event]>
-    ensures { MatchOption result ((ds : List Scalar) (f : Record) → is_next f ≡ true
-        → are_elements (element.now ∷ ds) (f ∷ value.now) ≡ false)
-        (λ rest. (ds : List Scalar) (f : Record) → is_next f ≡ true
-        → are_elements (element.now ∷ ds) (f ∷ value.now) ≡ are_elements ds rest.now) }
+// The records after the first, if that says this.
+fn behind_mark(mark: Mark, value: &[Event]) -> Option<&[Event]>
+    ensures { option_copied result ≡ behind_event (has_mark mark) value.now }
 {
     match value.split_first() {
-        Some((event, rest)) => {
-            if !is_same(element, event) {
-                return None;
+        Some((first, rest)) => {
+            if has_mark(mark, first) {
+                Some(rest)
+            } else {
+                None
             }
-            Some(rest)
         }
         None => None,
     }
 }
 
-// Whether records say that no element follows, and then are the end.
-fn is_list_end(value: &[Event]) -> bool
-    ensures { result ≡ is_list_end value.now }
+// Whether a record says this.
+fn has_mark(mark: Mark, event: &Event) -> bool
+    ensures { result ≡ has_mark mark event.now }
 {
-    match value.split_first() {
-        Some((last, rest)) => is_last(last) && is_only_end(rest),
-        None => false,
-    }
-}
-
-// Whether records are the end of a value with parts.
-fn is_only_end(value: &[Event]) -> bool
-    ensures { result ≡ is_only_end value.now }
-{
-    value.len() == 1 && is_end(&value[0])
-}
-
-// Whether records are a CHOICE with this alternative and value.
-fn is_choice(chosen: Chosen, simple: &Scalar, value: &[Event]) -> bool
-    ensures { result ≡ is_choice chosen simple.now value.now }
-{
-    match value.split_first() {
-        Some((first, rest)) => is_chosen(chosen, first) && is_alternative(simple, rest),
-        None => false,
-    }
-}
-
-// Whether records are this value, and the end of a CHOICE.
-fn is_alternative(simple: &Scalar, value: &[Event]) -> bool
-    ensures { result ≡ is_alternative simple.now value.now }
-{
-    match value.split_first() {
-        Some((event, rest)) => is_same(simple, event) && is_only_end(rest),
-        None => false,
-    }
-}
-
-// Whether a record is the beginning of a list.
-fn is_opening(event: &Event) -> bool
-    ensures { result ≡ is_opening event.now }
-{
-    matches!(event, Event::ListBegins(_, _))
-}
-
-// Whether a record says that another element follows.
-fn is_next(event: &Event) -> bool
-    ensures { result ≡ is_next event.now }
-{
-    match event {
-        Event::Further(more) => *more,
-        _ => false,
-    }
-}
-
-// Whether a record says that no element follows.
-fn is_last(event: &Event) -> bool
-    ensures { result ≡ is_last event.now }
-{
-    match event {
-        Event::Further(more) => !*more,
-        _ => false,
-    }
-}
-
-// Whether a record is the end of a value with parts.
-fn is_end(event: &Event) -> bool
-    ensures { result ≡ is_end event.now }
-{
-    matches!(event, Event::Ends)
-}
-
-// Whether a record is the beginning of a CHOICE with this alternative.
-fn is_chosen(chosen: Chosen, event: &Event) -> bool
-    ensures { result ≡ is_chosen chosen event.now }
-{
-    match event {
-        Event::ChoiceBegins(_, alternative) => {
-            alternative.added == chosen.added && alternative.place == chosen.place
-        }
-        _ => false,
+    match mark {
+        Mark::Opens => matches!(event, Event::ListBegins(_, _)),
+        Mark::More(follows) => match event {
+            Event::Further(more) => *more == follows,
+            _ => false,
+        },
+        Mark::Picks(chosen) => match event {
+            Event::ChoiceBegins(_, alternative) => {
+                alternative.added == chosen.added && alternative.place == chosen.place
+            }
+            _ => false,
+        },
+        Mark::Closes => matches!(event, Event::Ends),
     }
 }
 
 // Whether a record is a value without parts.
 #[tactic(auto, using(std::proofs::lemmas::Grind::common_steps), unfolding(asn1_model::specs::Value::same))]
 fn is_same(default: &Scalar, event: &Event) -> bool
-    ensures { result ≡ is_scalar default.now event.now }
+    ensures { result ≡ is_scalar (scalar_of default.now) event.now }
 {
     match default {
         Scalar::Truth(value) => match event {

@@ -99,9 +99,13 @@ pub struct ComponentLists<'a> {
 }
 
 impl<'a> Model for ComponentLists<'a> {
+    ghost use Rattle.std.specs.Coded.{codes};
     ghost use Rattle.asn1_table_tape.specs.Terms.{Lists};
+    ghost use Rattle.asn1_table_types.specs.contracts.events.DefaultValue as default;
 
     ghost Value = { Lists };
+
+    ghost coded = { Prim.hlevel (codes, default.the_row.coded) };
 
     ghost view = { λ t. record { root = t.root.now; extensible = t.is_extensible; additions = t.additions.now } };
 }

@@ -145,25 +145,37 @@ fn wrong_defaults_of_strings(rt: HostRuntime) {
 }
 
 /// SEQUENCE OF BOOLEAN with these elements as its default.
-fn list(alloc: Global, elements: Vec<Event>) -> Nodes {
+fn list(alloc: Global, elements: Vec<DefaultValue>) -> Nodes {
     let node = TypeNode::SequenceOf(ANY, 0);
     with_parts(alloc, node, DefaultValue::SequenceOf(elements))
 }
 
-/// SET OF BOOLEAN with this element, or none, as its default.
-fn bag(alloc: Global, element: Option<Event>) -> Nodes {
-    with_parts(alloc, TypeNode::SetOf(ANY, 0), DefaultValue::SetOf(element))
+/// SET OF BOOLEAN with no element as its default.
+fn no_element(alloc: Global) -> Nodes {
+    with_parts(alloc, TypeNode::SetOf(ANY, 0), DefaultValue::SetOf(None))
+}
+
+/// The same with this element.
+fn bag(alloc: Global, element: Event) -> Nodes {
+    let element = Box::new(alloc, DefaultValue::Simple(element))?;
+    let node = TypeNode::SetOf(ANY, 0);
+    with_parts(alloc, node, DefaultValue::SetOf(Some(element)))
 }
 
 /// CHOICE {a BOOLEAN, b BOOLEAN, ..., c BOOLEAN} with this default.
 fn chosen(alloc: Global, chosen: Chosen, event: Event) -> Nodes {
     let node = TypeNode::Choice(choice(alloc, &[0, 1], true, &[2])?);
-    with_parts(alloc, node, DefaultValue::Choice(chosen, event))
+    let value = Box::new(alloc, DefaultValue::Simple(event))?;
+    with_parts(alloc, node, DefaultValue::Choice(chosen, value))
 }
 
 /// TRUE and another element.
 fn pair(alloc: Global, event: Event) -> Nodes {
-    list(alloc, Vec::from_array(alloc, [Event::Truth(true), event])?)
+    let truth = DefaultValue::Simple(Event::Truth(true));
+    list(
+        alloc,
+        Vec::from_array(alloc, [truth, DefaultValue::Simple(event)])?,
+    )
 }
 
 #[test]
@@ -171,8 +183,8 @@ fn defaults_with_parts(rt: HostRuntime) {
     let alloc = rt.alloc();
     assert!(rt; is_made(alloc, list(alloc, Vec::new(alloc))));
     assert!(rt; is_made(alloc, pair(alloc, Event::Truth(false))));
-    assert!(rt; is_made(alloc, bag(alloc, None)));
-    assert!(rt; is_made(alloc, bag(alloc, Some(Event::Truth(true)))));
+    assert!(rt; is_made(alloc, no_element(alloc)));
+    assert!(rt; is_made(alloc, bag(alloc, Event::Truth(true))));
     assert!(rt; is_made(alloc, chosen(alloc, Chosen::root(1), Event::Truth(true))));
     assert!(rt;
         is_made(
@@ -191,7 +203,7 @@ fn is_wrong_whole(alloc: Global, nodes: Nodes) -> bool {
 fn wrong_defaults_with_parts(rt: HostRuntime) {
     let alloc = rt.alloc();
     assert!(rt; is_wrong_whole(alloc, pair(alloc, Event::Nothing)));
-    assert!(rt; is_wrong_whole(alloc, bag(alloc, Some(Event::Nothing))));
+    assert!(rt; is_wrong_whole(alloc, bag(alloc, Event::Nothing)));
     assert!(rt; is_wrong_whole(alloc, chosen(alloc, Chosen::root(2), Event::Truth(true))));
     assert!(rt; is_wrong_whole(alloc, chosen(alloc, Chosen::addition(0), Event::Nothing)));
     let simple = DefaultValue::Simple(Event::Truth(true));
@@ -203,4 +215,33 @@ fn wrong_defaults_with_parts(rt: HostRuntime) {
     );
     let list = DefaultValue::SequenceOf(Vec::new(alloc));
     assert!(rt; is_wrong_whole(alloc, with_parts(alloc, TypeNode::SetOf(ANY, 0), list)));
+}
+
+/// SEQUENCE OF SEQUENCE OF BOOLEAN, with a list of one list of this element as its default.
+fn nested(alloc: Global, event: Event) -> Nodes {
+    let inner = Vec::from_array(alloc, [DefaultValue::Simple(event)])?;
+    let outer = Vec::from_array(alloc, [DefaultValue::SequenceOf(inner)])?;
+    let default = Presence::Default(DefaultValue::SequenceOf(outer));
+    let component = part(alloc, &[0], default, 2)?;
+    let nodes = [
+        TypeNode::Boolean,
+        TypeNode::SequenceOf(ANY, 0),
+        TypeNode::SequenceOf(ANY, 1),
+        sequence(alloc, component)?,
+    ];
+    Ok(Vec::from_array(alloc, nodes)?)
+}
+
+#[test]
+fn defaults_in_defaults(rt: HostRuntime) {
+    let alloc = rt.alloc();
+    assert!(rt; is_made(alloc, nested(alloc, Event::Truth(true))));
+    assert!(rt;
+        is_refused(
+            alloc,
+            nested(alloc, Event::Nothing),
+            3,
+            Flaw::DefaultOfOtherType
+        )
+    );
 }

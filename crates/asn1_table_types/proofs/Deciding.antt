@@ -1,5 +1,5 @@
 -- Answers that hold at every number of levels, put together.
-use Rattle.std.proofs.Common.{◌≡◌, ◌∙◌, ap, subst, ℕ, zero, suc, Bool, true, false, ◌&&◌}
+use Rattle.std.proofs.Common.{◌≡◌, ◌∙◌, refl, ap, subst, ℕ, zero, suc, Bool, true, false, ◌&&◌}
 use Rattle.std.proofs.lemmas.Bool.{and_from}
 use Rattle.std.proofs.Math.Bool.{and-false}
 use Rattle.asn1_table_types.specs.Defaults.{AtSome, Decides}
@@ -28,3 +28,17 @@ decides_by f g false e h = record { levels = h.levels; told = e h.levels ∙ h.t
 
 pub decides_at : (f : ℕ → Bool) (a b : Bool) → a ≡ b → Decides f a → Decides f b
 decides_at f a b e h = let D : Bool → Type 0 = λ c. Decides f c in subst D e h
+
+-- what does not depend on the levels
+pub constant : (b : Bool) → Decides (λ n. b) b
+constant true = λ n. refl
+constant false = record { levels = 0; told = refl }
+
+-- both of two, and the second where the first does not depend on the levels
+pub both_decide : (f g : ℕ → Bool) (a b : Bool) → Decides f a → Decides g b → Decides (λ n. f n && g n) (a && b)
+both_decide f g true b h k = second_decides f g b h k
+both_decide f g false b h k = first_fails f g h
+
+pub kept_decides : (c : Bool) (f : ℕ → Bool) (b : Bool) → Decides f b → Decides (λ n. c && f n) (c && b)
+kept_decides true f b h = h
+kept_decides false f b h = record { levels = 0; told = refl }

@@ -9,3 +9,4 @@ pub mod Scalars
 pub mod Inserting
 pub mod Tagged
 pub mod Composed
+pub mod Values

@@ -1,23 +1,30 @@
--- Which values without parts are of a type of a table, and the types of a value's parts.
-use Rattle.std.specs.Prelude.{◌≡◌, ℕ, ℤ, Bool, true, false, cond, ◌&&◌, ◌||◌, length, not, List, Option, Some, None}
+-- Which values are of a type of a table.
+use Rattle.std.specs.Prelude.{◌≡◌, ℕ, ℤ, Bool, true, false, cond, ◌&&◌, ◌||◌, length, not, List, [], ◌∷◌, Option, Some}
+use Rattle.std.specs.Prelude.{None}
 use Rattle.std.specs.Prelude.{slice_get}
-use Rattle.std.specs.Option.{option_map}
+use Rattle.std.specs.Option.{option_map, option_map_or}
 use Rattle.asn1_model.specs.Numbers.{is_within, is_count_within}
-use Rattle.asn1_model.specs.Value.{same_number}
+use Rattle.asn1_model.specs.Value.{same_number, Value, truth, nothing, number, item, bit_list, octet_list, text, arcs}
+use Rattle.asn1_model.specs.Value.{members, bag, fields, chosen, Values, no_more, member, Parts, end, absent, present}
+use Rattle.asn1_model.specs.Lawful.{member_count}
+use Rattle.asn1_model.specs.Normal.{is_required}
 use Rattle.std.specs.List.{list_all}
 use Rattle.asn1_model.specs.Strings.{is_identifier, is_octet, is_of_octets, may_hold}
+use Rattle.asn1_schema_constraints.specs.Bounds.{members_of}
+use Rattle.asn1_schema_constraints.specs.declared.bounds.Bounded.TheVariants.{None as Unbounded}
 use Rattle.asn1_schema_constraints.specs.declared.sizes.Sizes.{Sizes}
 use Rattle.asn1_schema_constraints.specs.Terms.{size_of}
 use Rattle.asn1_table_types.specs.declared.events.Event.{Event}
 use Rattle.asn1_table_types.specs.declared.events.Event.TheVariants as event
 use Rattle.asn1_table_types.specs.declared.nodes.Alternative.{Alternative}
 use Rattle.asn1_table_types.specs.declared.nodes.AlternativeTable.{AlternativeTable}
+use Rattle.asn1_table_types.specs.declared.nodes.Component.{Component}
 use Rattle.asn1_table_types.specs.declared.nodes.ItemTable.{ItemTable}
 use Rattle.asn1_table_types.specs.declared.nodes.NumberLimits.{NumberLimits}
 use Rattle.asn1_table_types.specs.declared.nodes.StringTable.{StringTable}
 use Rattle.asn1_table_types.specs.declared.nodes.TypeNode.{TypeNode}
 use Rattle.asn1_table_types.specs.declared.nodes.TypeNode.TheVariants as node
-use Rattle.asn1_table_types.specs.Meaning.{bounds_in, held_in, kind_of}
+use Rattle.asn1_table_types.specs.Meaning.{bounds_in, held_in, kind_of, presence_of}
 
 -- A number is one of an INTEGER (X.680 19 and 51.4).
 abbrev pub is_number_of : Option NumberLimits → ℤ → Bool
@@ -71,6 +78,45 @@ place_in true i t =
 abbrev pub chosen_place : Bool → ℕ → TypeNode → Option ℕ
 chosen_place b i (node.Choice t) = place_in b i t
 chosen_place b i x = None
+
+-- Whether a list of this many elements is held.
+abbrev pub is_held : Values → Bool
+is_held vs = is_count_within (members_of Unbounded) (member_count vs)
+
+unfoldable mutual
+  -- A value is of a type of a table, however deep this is unfolded (X.680 17 to 32). Outside the table anything is.
+  pub has_type : List TypeNode → Option TypeNode → Value → Bool
+  has_type ns None v = true
+  has_type ns (Some node.Boolean) (truth b) = true
+  has_type ns (Some node.Null) nothing = true
+  has_type ns (Some (node.Integer l)) (number v) = is_number_of l v
+  has_type ns (Some (node.Enumerated t)) (item v) = is_item_of t v
+  has_type ns (Some (node.BitString z)) (bit_list bs) = is_size_of z (length bs)
+  has_type ns (Some (node.OctetString z)) (octet_list os) = list_all is_octet os && is_size_of z (length os)
+  has_type ns (Some (node.CharacterString t)) (text cs) = is_text_of t cs
+  has_type ns (Some node.ObjectIdentifier) (arcs xs) = is_identifier xs
+  has_type ns (Some (node.SequenceOf z i)) (members vs) = is_held vs && have_type ns (slice_get ns i) vs
+  has_type ns (Some (node.SetOf z i)) (bag vs) = is_held vs && have_type ns (slice_get ns i) vs
+  has_type ns (Some (node.Choice t)) (chosen b i v) =
+      option_map_or (λ p. has_type ns (slice_get ns p) v) (place_in b i t) false
+  has_type ns (Some (node.Sequence t)) (fields ps qs) =
+      have_parts ns t.root.items ps && have_parts ns t.additions.items qs
+  has_type ns (Some (node.Set t)) (fields ps qs) =
+      have_parts ns t.root.items ps && have_parts ns t.additions.items qs
+  has_type ns (Some (node.Group cs)) (fields ps end) = have_parts ns cs.items ps
+  has_type ns (Some x) v = false
+
+  -- All of some values are.
+  pub have_type : List TypeNode → Option TypeNode → Values → Bool
+  have_type ns o no_more = true
+  have_type ns o (member v vs) = has_type ns o v && have_type ns o vs
+
+  -- Parts are those of components (X.680 25).
+  pub have_parts : List TypeNode → List Component → Parts → Bool
+  have_parts ns [] end = true
+  have_parts ns (c ∷ cs) (present v ps) = has_type ns (slice_get ns c.place) v && have_parts ns cs ps
+  have_parts ns (c ∷ cs) (absent ps) = not (is_required (presence_of c.presence)) && have_parts ns cs ps
+  have_parts ns cs ps = false
 
 -- Some number of levels has this answer.
 pub record AtSome (holds : ℕ → Bool) (answer : Bool) : Type 0 where

@@ -1,17 +1,18 @@
 //! Whether defaults are values of their components' types (X.680 25).
 #![tactic(auto, using(std::proofs::lemmas::Grind::common_steps))]
 
-ghost use Rattle.std.specs.Prelude.{◌≡◌, ◌<◌, ◌^◌, ℕ, true, ◌&&◌, IfErr, OnOk, Some, length, slice_get};
+ghost use Rattle.std.specs.Prelude.{◌≡◌, ℕ, true, ◌&&◌, IfErr, OnOk, Some, length, map, slice_get};
 ghost use Rattle.std.specs.Option.{option_map};
-ghost use Rattle.asn1_model.specs.Lawful.{is_of, has_typed_default};
+ghost use Rattle.asn1_model.specs.Lawful.{has_typed_default};
 ghost use Rattle.std.specs.List.{list_all};
 ghost use Rattle.asn1_model.specs.Strings.{is_identifier, is_octet, is_of_octets, may_hold};
-ghost use Rattle.asn1_model.specs.Value.{are_all, members, bag, chosen as chosen_value};
+ghost use Rattle.asn1_model.specs.Value.{values_of};
 ghost use Rattle.asn1_table_types.specs.Defaults.{is_number_of, is_item_of, is_size_of, is_text_of, is_scalar};
-ghost use Rattle.asn1_table_types.specs.Defaults.{elements_place, bag_place, chosen_place, place_in, AtSome, Decides};
+ghost use Rattle.asn1_table_types.specs.Defaults.{elements_place, bag_place, chosen_place, place_in, has_type};
+ghost use Rattle.asn1_table_types.specs.Defaults.{have_type, AtSome, Decides};
 ghost use Rattle.asn1_table_types.specs.Flaws.{has_defaults, have_defaults, lacks};
 ghost use Rattle.asn1_table_types.specs.Meaning.{components_of, kind_of, presence_of, type_of, type_at};
-ghost use Rattle.asn1_table_types.specs.Values.{scalar_of, value_of, values_of, list_of};
+ghost use Rattle.asn1_table_types.specs.Values.{list_of, value_of};
 ghost use Rattle.asn1_values_alphabets.specs.Permitted.{permits_all};
 
 use crate::items::item_differs;
@@ -87,8 +88,9 @@ fn is_right(nodes: &[TypeNode], component: &Component) -> bool
 }
 
 /// Whether a value is of the type at an index.
+#[cycle(typed)]
 fn is_of_type(nodes: &[TypeNode], place: usize, value: &DefaultValue) -> bool
-    ensures { Decides (λ n. is_of (type_at nodes.now n place) (value_of value.now)) result }
+    ensures { result ≡ has_type nodes.now (slice_get nodes.now place) (value_of value.now) }
 {
     match nodes.get(place) {
         None => true,
@@ -97,47 +99,49 @@ fn is_of_type(nodes: &[TypeNode], place: usize, value: &DefaultValue) -> bool
 }
 
 /// Whether a value is of a type.
+#[cycle(typed)]
 fn is_of_node(nodes: &[TypeNode], node: &TypeNode, value: &DefaultValue) -> bool
-    ensures { Decides (λ n. is_of (type_of nodes.now n (Some node.now)) (value_of value.now)) result }
+    ensures { result ≡ has_type nodes.now (Some node.now) (value_of value.now) }
 {
     match value {
         DefaultValue::Simple(event) => is_scalar_of(node, event),
-        DefaultValue::SequenceOf(elements) => is_sequence_of(nodes, node, elements.as_slice()),
-        DefaultValue::SetOf(element) => is_set_of(nodes, node, element),
-        DefaultValue::Choice(chosen, event) => is_choice_of(nodes, node, *chosen, event),
+        DefaultValue::SequenceOf(elements) => match elements_place(node) {
+            None => false,
+            Some(place) => are_of_type(nodes, place, elements.as_slice()),
+        },
+        DefaultValue::SetOf(element) => match bag_place(node) {
+            None => false,
+            Some(place) => is_element_of(nodes, place, element),
+        },
+        DefaultValue::Choice(chosen, value) => match chosen_place(node, *chosen) {
+            None => false,
+            Some(place) => is_of_type(nodes, place, value),
+        },
     }
 }
 
-/// Whether a SEQUENCE OF values without parts is of a type.
-fn is_sequence_of(nodes: &[TypeNode], node: &TypeNode, elements: &[Event]) -> bool
-    ensures { length elements.now < 2 ^ 64
-        → Decides (λ n. is_of (type_of nodes.now n (Some node.now)) (members (values_of elements.now))) result }
+/// Whether values are all of the type at an index.
+#[cycle(typed)]
+fn are_of_type(nodes: &[TypeNode], place: usize, values: &[DefaultValue]) -> bool
+    ensures { result ≡ have_type nodes.now (slice_get nodes.now place) (values_of (map value_of values.now)) }
 {
-    match elements_place(node) {
-        None => false,
-        Some(place) => are_scalars_at(nodes, place, elements),
+    for value in values {
+        if !is_of_type(nodes, place, value) {
+            return false;
+        }
     }
+    true
 }
 
-/// Whether a SET OF one value without parts, or of none, is of a type.
-fn is_set_of(nodes: &[TypeNode], node: &TypeNode, element: &Option<Event>) -> bool
-    ensures { Decides (λ n. is_of (type_of nodes.now n (Some node.now)) (bag (values_of (list_of element.now))))
-        result }
+/// Whether a value, if there is one, is of the type at an index.
+#[cycle(typed)]
+fn is_element_of(nodes: &[TypeNode], place: usize, element: &Option<Box<DefaultValue>>) -> bool
+    ensures { result ≡ have_type nodes.now (slice_get nodes.now place)
+        (values_of (map value_of (list_of element.now))) }
 {
-    match bag_place(node) {
-        None => false,
-        Some(place) => is_element_at(nodes, place, element),
-    }
-}
-
-/// Whether a value without parts, as the chosen alternative of a CHOICE, is of a type.
-fn is_choice_of(nodes: &[TypeNode], node: &TypeNode, chosen: Chosen, event: &Event) -> bool
-    ensures { Decides (λ n. is_of (type_of nodes.now n (Some node.now))
-        (chosen_value chosen.added chosen.place (scalar_of event.now))) result }
-{
-    match chosen_place(node, chosen) {
-        None => false,
-        Some(place) => is_scalar_at(nodes, place, event),
+    match element {
+        None => true,
+        Some(value) => is_of_type(nodes, place, value),
     }
 }
 
@@ -192,39 +196,6 @@ fn place_among(alternatives: &[Alternative], index: usize) -> Option<usize>
         return None;
     }
     Some(alternatives[index].place)
-}
-
-/// Whether values without parts are all of the type at an index.
-fn are_scalars_at(nodes: &[TypeNode], place: usize, events: &[Event]) -> bool
-    ensures { Decides (λ n. are_all (λ v. is_of (type_at nodes.now n place) v) (values_of events.now)) result }
-{
-    for event in events {
-        if !is_scalar_at(nodes, place, event) {
-            return false;
-        }
-    }
-    true
-}
-
-/// Whether a value without parts, if there is one, is of the type at an index.
-fn is_element_at(nodes: &[TypeNode], place: usize, element: &Option<Event>) -> bool
-    ensures { Decides (λ n. are_all (λ v. is_of (type_at nodes.now n place) v) (values_of (list_of element.now)))
-        result }
-{
-    match element {
-        None => true,
-        Some(event) => is_scalar_at(nodes, place, event),
-    }
-}
-
-/// Whether a value without parts is of the type at an index.
-fn is_scalar_at(nodes: &[TypeNode], place: usize, event: &Event) -> bool
-    ensures { Decides (λ n. is_of (type_at nodes.now n place) (scalar_of event.now)) result }
-{
-    match nodes.get(place) {
-        None => true,
-        Some(node) => is_scalar_of(node, event),
-    }
 }
 
 /// Whether a value without parts is of a type.

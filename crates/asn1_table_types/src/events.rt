@@ -26,16 +26,16 @@ pub enum Event {
     Arcs(ObjectIdentifier),
 }
 
-/// The value that is meant where a component with DEFAULT is absent (X.680 25). That of a SEQUENCE or SET, a SET OF of
-/// several elements, and a list or CHOICE of values with parts cannot be given.
+/// The value that is meant where a component with DEFAULT is absent (X.680 25). Values of SEQUENCE and SET, and a SET OF
+/// of several elements, cannot be given.
 #[derive(Drop)]
 pub enum DefaultValue {
     /// A value without parts.
     Simple(Event),
     /// A SEQUENCE OF (X.680 26), by its elements.
-    SequenceOf(Vec<Event>),
+    SequenceOf(Vec<DefaultValue>),
     /// A SET OF (X.680 28), by its element, if it has one.
-    SetOf(Option<Event>),
+    SetOf(Option<Box<DefaultValue>>),
     /// A CHOICE (X.680 29), by the chosen alternative and its value.
-    Choice(Chosen, Event),
+    Choice(Chosen, Box<DefaultValue>),
 }
