@@ -1,6 +1,7 @@
 //! Translates messages between encoding rules of ASN.1, from standard input to standard output.
 #![tactic(auto)]
 
+use asn1_module_command::{module_command, names_modules};
 use asn1_relay_command::{command, refuse_arguments};
 use std::process::ExitCode;
 use std::{env, io};
@@ -8,6 +9,13 @@ use std::{env, io};
 fn main(rt: HostRuntime) -> ExitCode {
     let mut errors = rt.stderr();
     let status = match arguments(&rt) {
+        Ok(words) if names_modules(words.as_slice()) => module_command(
+            &rt,
+            words.as_slice(),
+            &mut rt.stdin(),
+            &mut rt.stdout(),
+            &mut errors,
+        ),
         Ok(words) => {
             let alloc = rt.alloc();
             command(

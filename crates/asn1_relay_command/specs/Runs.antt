@@ -32,13 +32,13 @@ Known = Option (List ℕ)
 
 -- ---- translating
 
--- what a message of a type becomes, by the requested rules
-abbrev pub BecomesAs : Schema → Translation → List ℕ → Answer → Type 0
-BecomesAs s t message answer = IsAnswer (rules_of t.from) (rules_of t.to) s message answer
+-- what a message of a type becomes, from some rules to others
+abbrev pub BecomesAs : Schema → Codec → Codec → List ℕ → Answer → Type 0
+BecomesAs s from to message answer = IsAnswer (rules_of from) (rules_of to) s message answer
 
 -- what it becomes, by what was requested
 abbrev pub Becomes : Translation → List ℕ → Answer → Type 0
-Becomes t message answer = BecomesAs (schema_named t.kind) t message answer
+Becomes t message answer = BecomesAs (schema_named t.kind) t.from t.to message answer
 
 abbrev pub fault_named : RecodeFault → Fault
 fault_named (recode_fault.NotAnEncoding e) = fault.NotAnEncoding
@@ -47,16 +47,16 @@ fault_named (recode_fault.NoTarget e) = fault.NoTargetEncoding
 fault_named recode_fault.Memory = fault.OutOfMemory
 
 -- an error of translating a message of a type is what becomes of it, or memory ran out
-abbrev pub IsRefusedAs : Schema → Translation → List ℕ → Fault → Type 0
-IsRefusedAs s t message fault.NotAnEncoding = BecomesAs s t message not_an_encoding
-IsRefusedAs s t message fault.SurplusOctets = BecomesAs s t message surplus
-IsRefusedAs s t message fault.NoTargetEncoding = BecomesAs s t message no_target
-IsRefusedAs s t message fault.OutOfMemory = Unit {0}
-IsRefusedAs s t message _ = ⊥
+abbrev pub IsRefusedAs : Schema → Codec → Codec → List ℕ → Fault → Type 0
+IsRefusedAs s from to message fault.NotAnEncoding = BecomesAs s from to message not_an_encoding
+IsRefusedAs s from to message fault.SurplusOctets = BecomesAs s from to message surplus
+IsRefusedAs s from to message fault.NoTargetEncoding = BecomesAs s from to message no_target
+IsRefusedAs s from to message fault.OutOfMemory = Unit {0}
+IsRefusedAs s from to message _ = ⊥
 
 -- the same for what was requested
 abbrev pub IsRefusedBy : Translation → List ℕ → Fault → Type 0
-IsRefusedBy t message f = IsRefusedAs (schema_named t.kind) t message f
+IsRefusedBy t message f = IsRefusedAs (schema_named t.kind) t.from t.to message f
 
 -- ---- one message
 
@@ -66,10 +66,10 @@ pub record IsAllRead (old new : Known) (message : List ℕ) : Type 0 where
   pub ended : IsAtEnd new
 
 -- everything was read, and became this
-pub record IsAnswered (t : Translation) (old new : Known) (answer : Answer) : Type 0 where
+pub record IsAnswered (s : Schema) (from to : Codec) (old new : Known) (answer : Answer) : Type 0 where
   pub message : List ℕ
   pub read : IsAllRead old new message
-  pub answers : Becomes t message answer
+  pub answers : BecomesAs s from to message answer
 
 -- octets that are right were written
 pub record HasWritten (IsRight : List ℕ → Type 0) (held held' : Known) : Type 0 where
@@ -84,25 +84,35 @@ pub record IsCutOff (IsRight : List ℕ → Type 0) (held held' : Known) : Type 
   pub began : BeginsToAppend held held' octets
 
 -- everything was read, and this is its translation
-abbrev pub IsTranslated : Translation → Known → Known → List ℕ → Type 0
-IsTranslated t unread unread' octets = IsAnswered t unread unread' (answered octets)
+abbrev pub IsTranslated : Schema → Codec → Codec → Known → Known → List ℕ → Type 0
+IsTranslated s from to unread unread' octets = IsAnswered s from to unread unread' (answered octets)
 
--- everything was read and translated, and the result was written
+-- everything was read and translated, as a message of a type, and the result was written
+abbrev pub DoesOnceAs : Schema → Codec → Codec → Known → Known → Known → Known → Type 0
+DoesOnceAs s from to unread unread' held held' = HasWritten (IsTranslated s from to unread unread') held held'
+
+-- the same for what was requested
 abbrev pub DoesOnce : Translation → Known → Known → Known → Known → Type 0
-DoesOnce t unread unread' held held' = HasWritten (IsTranslated t unread unread') held held'
+DoesOnce t unread unread' held held' = DoesOnceAs (schema_named t.kind) t.from t.to unread unread' held held'
 
 -- an error before there is a result leaves the writer as it was
+abbrev pub StopsOnceAs : Schema → Codec → Codec → Known → Known → Known → Known → Fault → Type 0
+StopsOnceAs s from to unread unread' held held' fault.NotAnEncoding =
+    IsAnswered s from to unread unread' not_an_encoding × Keeps held held'
+StopsOnceAs s from to unread unread' held held' fault.SurplusOctets =
+    IsAnswered s from to unread unread' surplus × Keeps held held'
+StopsOnceAs s from to unread unread' held held' fault.NoTargetEncoding =
+    IsAnswered s from to unread unread' no_target × Keeps held held'
+StopsOnceAs s from to unread unread' held held' fault.OutOfMemory = Keeps held held'
+StopsOnceAs s from to unread unread' held held' fault.ReadFailed = Keeps held held'
+StopsOnceAs s from to unread unread' held held' fault.WriteFailed =
+    IsCutOff (IsTranslated s from to unread unread') held held'
+StopsOnceAs s from to unread unread' held held' _ = ⊥
+
+-- the same for what was requested
 abbrev pub StopsOnceBy : Translation → Known → Known → Known → Known → Fault → Type 0
-StopsOnceBy t unread unread' held held' fault.NotAnEncoding =
-    IsAnswered t unread unread' not_an_encoding × Keeps held held'
-StopsOnceBy t unread unread' held held' fault.SurplusOctets =
-    IsAnswered t unread unread' surplus × Keeps held held'
-StopsOnceBy t unread unread' held held' fault.NoTargetEncoding =
-    IsAnswered t unread unread' no_target × Keeps held held'
-StopsOnceBy t unread unread' held held' fault.OutOfMemory = Keeps held held'
-StopsOnceBy t unread unread' held held' fault.ReadFailed = Keeps held held'
-StopsOnceBy t unread unread' held held' fault.WriteFailed = IsCutOff (IsTranslated t unread unread') held held'
-StopsOnceBy t unread unread' held held' _ = ⊥
+StopsOnceBy t unread unread' held held' f =
+    StopsOnceAs (schema_named t.kind) t.from t.to unread unread' held held' f
 
 -- ---- a stream of messages
 
@@ -137,10 +147,16 @@ run_fault_named (run_fault.Relay at) = fault.AtMessage at
 run_fault_named run_fault.Memory = fault.OutOfMemory
 
 -- an error of the run stops it, under the command's name for it
-pub record IsRunFault (t : Translation) (limit : ℕ) (unread unread' held held' : Known) (f : Fault) : Type 0 where
+pub record IsRunFaultAs (s : Schema) (from to : Codec) (limit : ℕ) (unread unread' held held' : Known) (f : Fault)
+    : Type 0 where
   pub reason : RunFault
   pub is : f ≡ run_fault_named reason
-  pub stops : StopsStreamBy t limit unread unread' held held' reason
+  pub stops : StopsStreamAs s from to limit unread unread' held held' reason
+
+-- the same for what was requested
+abbrev pub IsRunFault : Translation → ℕ → Known → Known → Known → Known → Fault → Type 0
+IsRunFault t limit unread unread' held held' f =
+    IsRunFaultAs (schema_named t.kind) t.from t.to limit unread unread' held held' f
 
 -- ---- one message along a route
 

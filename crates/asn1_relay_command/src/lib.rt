@@ -2,9 +2,11 @@
 #![tactic(auto)]
 
 mod fault;
+mod messages;
 mod order;
 mod program;
 
 pub use fault::{Fault, HopFault};
-pub use order::{Kind, Order, Pair, Translation, read_order};
-pub use program::{command, refuse_arguments, translate_all};
+pub use messages::{read_all, translate_message, translate_octets, translate_stream, write_all};
+pub use order::{Kind, Order, Pair, Translation, codec_named, read_order};
+pub use program::{command, refuse_arguments, report, translate_all};

@@ -97,8 +97,8 @@ pub enum Order {
     },
 }
 
-/// The rules with this name.
-fn codec_named(name: &str) -> Option<Codec>
+/// The rules with this name, as `uper`.
+pub fn codec_named(name: &str) -> Option<Codec>
     ensures { result ≡ codec_by_name name.now }
 {
     match name {
@@ -290,6 +290,10 @@ fn grammar<'a>(alloc: Global) -> Result<Command<'a>, AllocError>
     let route = routing(alloc)?;
     Command::new(alloc, "asn1_relay")
         .about("Translates messages between encoding rules of ASN.1")
+        .after_help(
+            "Types of your own: add --module FILE, as in asn1_relay once --module FILE --help. With it come json, \
+             check and types.",
+        )
         .subcommand_required(true)
         .subcommand(once)?
         .subcommand(stream)?

@@ -14,10 +14,9 @@ ghost use Rattle.asn1_relay_command.specs.Runs.{IsRefusedAs, IsRefusedBy, IsTurn
 ghost use Rattle.asn1_relay_command.specs.Runs.{StopsOnceBy, StopsRouteBy, StopsStreamAs, StopsStreamBy};
 
 use crate::fault::Fault;
+use crate::messages::{read_all, translate_octets, translate_stream, write_all};
 use crate::order::{Kind, Order, Pair, Translation, read_order};
-use asn1_relay_core::{
-    Codec, Extends, Hop, RunFault, StdSink, StdSource, recode, route, run, write_octets,
-};
+use asn1_relay_core::{Codec, Extends, Hop, RunFault, RustType, route, write_octets};
 use asn1_relay_types::{
     self as types, Bag, Group, Nest, New, NewColour, NewDefault, NewRequired, Octets, Old,
     OldColour, OldDefault, Set, Small,
@@ -119,8 +118,8 @@ fn refuse<E: Write>(error: &clap::Error, errors: &mut E) -> u8
     2
 }
 
-/// Reports an error, and returns the exit status. It ignores a line that cannot be written.
-fn report<E: Write>(fault: Fault, errors: &mut E) -> u8
+/// Reports an error in one line, and returns the exit status, 1. It ignores a line that cannot be written.
+pub fn report<E: Write>(fault: Fault, errors: &mut E) -> u8
     ensures status { result ≡ 1 }
     ensures says { BeginsToAppend (E.contents errors.old) (E.contents errors.new) (line_of fault) }
 {
@@ -144,26 +143,6 @@ fn once<R: Read, W: Write>(
     let message = read_all(alloc, input)?;
     let answer = translate_all(alloc, translation, message.as_slice())?;
     write_all(answer.as_slice(), output)
-}
-
-/// Reads the whole input.
-fn read_all<R: Read>(alloc: Global, input: &mut R) -> Result<Vec<u8>, Fault>
-    ensures ok { IfOk result (λ v. IsAllRead (R.remaining input.old) (R.remaining input.new) v.items) }
-    ensures err { IfErr result (λ f. (f ≡ Fault.ReadFailed) ⊎ (f ≡ Fault.OutOfMemory)) }
-{
-    let mut octets = Vec::new(alloc);
-    let mut block = [0u8; 4096];
-    // Each turn adds an octet, of which memory holds fewer than 2^64, or is an interruption; 2^64 interruptions count
-    // as a failure.
-    for _ in 0..u64::MAX {
-        match input.read(&mut block) {
-            Ok(0) => return Ok(octets),
-            Ok(count) => octets.extend_from_slice(&block[..count])?,
-            Err(error) if error.kind() == ErrorKind::Interrupted => {}
-            Err(_) => return Err(Fault::ReadFailed),
-        }
-    }
-    Err(Fault::ReadFailed)
 }
 
 /// A call with the message type of a `Kind`.
@@ -195,11 +174,18 @@ fn translate<T: Encode + Decode>(
     translation: Translation,
     message: &[u8],
 ) -> Result<Vec<u8>, Fault>
-    ensures { MatchResult result (λ v. BecomesAs (T.schema 128) translation message.now (answered v.items))
-        (IsRefusedAs (T.schema 128) translation message.now) }
+    ensures { MatchResult result
+        (λ v. BecomesAs (T.schema 128) translation.from translation.to message.now (answered v.items))
+        (IsRefusedAs (T.schema 128) translation.from translation.to message.now) }
 {
-    let octets = recode::<T>(alloc, translation.from, translation.to, message)?;
-    Ok(octets)
+    let message_type = RustType::<T>::new();
+    translate_octets(
+        alloc,
+        &message_type,
+        translation.from,
+        translation.to,
+        message,
+    )
 }
 
 /// Translates one message.
@@ -236,15 +222,14 @@ fn stream_of<T: Encode + Decode, R: Read, W: Write>(
         (StopsStreamAs (T.schema 128) translation.from translation.to limit
         (R.remaining input.old) (R.remaining input.new) (W.contents output.old) (W.contents output.new)) }
 {
-    let mut source = StdSource::new(input, u64::MAX);
-    let mut sink = StdSink::new(output);
-    run::<T, _, _>(
+    translate_stream(
         alloc,
-        &mut source,
-        &mut sink,
+        RustType::<T>::new(),
         translation.from,
         translation.to,
-        limit as usize,
+        limit,
+        input,
+        output,
     )
 }
 
@@ -325,20 +310,4 @@ fn send<R: Read, W: Write>(
     let message = read_all(alloc, input)?;
     let answer = send_all(alloc, from, pair, hops, message.as_slice())?;
     write_all(answer.as_slice(), output)
-}
-
-/// Writes all octets, and flushes.
-fn write_all<W: Write>(octets: &[u8], output: &mut W) -> Result<(), Fault>
-    ensures ok { OnOk result (Appends (W.contents output.old) (W.contents output.new) octets.now) }
-    ensures err { IfErr result (λ f. f ≡ Fault.WriteFailed) }
-    ensures begins { BeginsToAppend (W.contents output.old) (W.contents output.new) octets.now }
-{
-    match write_octets(octets, output) {
-        Ok(()) => {}
-        Err(_) => return Err(Fault::WriteFailed),
-    }
-    match output.flush() {
-        Ok(()) => Ok(()),
-        Err(_) => Err(Fault::WriteFailed),
-    }
 }

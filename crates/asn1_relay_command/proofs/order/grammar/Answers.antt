@@ -15,7 +15,8 @@ returns c =
     let once : app_of c.in_ok-once.once ≡ once_app = c.in_ok-once.ensures in
     let stream : app_of c.in_ok-stream.stream ≡ stream_app = c.in_ok-stream.ensures.shape c.limit_option.ensures.local ∙ ap₂ with_rule c.in_ok-translating.ensures c.limit_option.ensures.rule in
     let begun : app_of c.about.result ≡ new_app (codes "asn1_relay") = ap app_of_fields c.about.ensures ∙ c.new.ensures.app in
-    let named : app_of c.subcommand_required.result ≡ name_app = ap app_of_fields c.subcommand_required.ensures ∙ ap requiring begun in
+    let helped : app_of c.after_help.result ≡ new_app (codes "asn1_relay") = ap app_of_fields c.after_help.ensures ∙ begun in
+    let named : app_of c.subcommand_required.result ≡ name_app = ap app_of_fields c.subcommand_required.ensures ∙ ap requiring helped in
     let first : app_of c.in_ok-subcommand.field-0 ≡ with_subcommand name_app once_app.top =
     c.in_ok-subcommand.ensures.shape (local_of c.in_ok-once.once once_app once refl) ∙ ap₂ with_subcommand named (ap (λ (a : App). a.top) once) in
     let second : app_of c.in_ok-subcommand-2.field-0 ≡ with_subcommand (with_subcommand name_app once_app.top) stream_app.top =

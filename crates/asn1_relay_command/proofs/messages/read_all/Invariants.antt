@@ -1,5 +1,5 @@
 use Rattle.std.specs.Io.KnownBytes.{Consumes}
-use Rattle.asn1_relay_command.proofs.program.read_all.Given as goal
+use Rattle.asn1_relay_command.proofs.messages.read_all.Given as goal
 
 -- what was read is what was kept
 abbrev pub invariant-loop : goal.invariant-loop

@@ -1,0 +1,163 @@
+//! One message of a type of a module. The octets in UPER are those of asn1c 0.9.28, those in COER were worked out by
+//! hand.
+use crate::common::{Row, SMALL, VEHICLE, first_wrong, is_refused};
+
+const JSON: &[u8] = b"{\"station\":1234567,\"kind\":\"bus\",\
+    \"position\":{\"latitude\":48777077,\"longitude\":9179430,\"altitude\":243},\
+    \"motion\":{\"speed\":1389,\"heading\":2703,\"turning\":{\"rate\":-12}},\"lights\":\"90\",\
+    \"path\":[{\"latitude\":48777000,\"longitude\":9179000}],\"note\":\"Line 42\"}\n";
+
+const UPER: &[u8] = b"\
+    C004B5A1DE11647D568D4C4C26D8ADB51F7FF390A11646A168D48F0020E3CCD3BB2A068C80\n";
+
+const COER: &[u8] = b"\
+    C00012D687038002E84775008C112600F3056D0A8F81FFF49001010002E84728008C0F7802078008074C696E65203432\n";
+
+/// The words of a translation of an `Awareness`, its octets as hexadecimal digits.
+macro_rules! hexadecimal {
+    ($from:literal, $to:literal) => {
+        &[
+            "asn1_relay", "once", "--module", "m.asn", "--type", "Vehicle.Awareness", "--from", $from, "--to", $to,
+            "--hex",
+        ]
+    };
+}
+
+const VEHICLES: [Row; 6] = [
+    (hexadecimal!("uper", "json"), VEHICLE, UPER, JSON),
+    (hexadecimal!("coer", "json"), VEHICLE, COER, JSON),
+    (hexadecimal!("json", "uper"), VEHICLE, JSON, UPER),
+    (hexadecimal!("json", "coer"), VEHICLE, JSON, COER),
+    (hexadecimal!("uper", "coer"), VEHICLE, UPER, COER),
+    (hexadecimal!("coer", "uper-strict"), VEHICLE, COER, UPER),
+];
+
+#[test]
+fn vehicles(rt: HostRuntime) {
+    assert!(rt; first_wrong(rt.alloc(), &VEHICLES).is_none());
+}
+
+/// The words of a translation of a `Small`.
+macro_rules! small {
+    ($from:literal, $to:literal $(, $more:literal)*) => {
+        &["asn1_relay", "once", "--module=m.asn", "--type", "Small", "--from", $from, "--to", $to $(, $more)*]
+    };
+}
+
+const SMALLS: [Row; 6] = [
+    (small!("coer", "uper"), SMALL, b"\xFC", b"\x10"),
+    (small!("uper", "json"), SMALL, b"\x10", b"-4\n"),
+    (small!("json", "oer"), SMALL, b" -4 ", b"\xFC"),
+    (small!("json", "json", "--pretty"), SMALL, b"5", b"5\n"),
+    (
+        small!("coer", "aper", "--hex"),
+        SMALL,
+        b" f\nC\r\n",
+        b"10\n",
+    ),
+    (small!("json", "uper", "--hex"), SMALL, b"-4", b"10\n"),
+];
+
+#[test]
+fn small_numbers(rt: HostRuntime) {
+    assert!(rt; first_wrong(rt.alloc(), &SMALLS).is_none());
+}
+
+/// Words, the input, and the error.
+type Refused = (&'static [&'static str], &'static [u8], &'static str);
+
+const REFUSED: [Refused; 8] = [
+    (
+        small!("coer", "uper"),
+        b"",
+        "asn1_relay: not an encoding: octet 0: the input ends early\n",
+    ),
+    (
+        small!("coer", "uper"),
+        b"\xFC\x00",
+        "asn1_relay: surplus octets: from octet 1 on\n",
+    ),
+    (
+        small!("coer", "json"),
+        b"\x06",
+        "asn1_relay: not an encoding: octet 0: a number is outside its value constraint\n",
+    ),
+    (
+        small!("uper", "coer"),
+        b"\xB0",
+        "asn1_relay: not an encoding: octet 0, bit 0: a number is outside its value constraint\n",
+    ),
+    (
+        small!("coer", "json"),
+        b"\x05\x00",
+        "asn1_relay: surplus octets: from octet 1 on\n",
+    ),
+    (
+        small!("json", "uper"),
+        b"6",
+        "asn1_relay: octet 0: the value is outside a constraint\n",
+    ),
+    (
+        small!("json", "uper"),
+        b"\xFF",
+        "asn1_relay: octet 0: the text is not JSON\n",
+    ),
+    (
+        small!("uper", "json", "--hex"),
+        b"1",
+        "asn1_relay: the input is not hexadecimal\n",
+    ),
+];
+
+#[test]
+fn refused_messages(rt: HostRuntime) {
+    let mut wrong = 0;
+    for (words, input, said) in REFUSED {
+        if !is_refused(rt.alloc(), words, SMALL, input, b"", said) {
+            wrong += 1;
+        }
+    }
+    assert!(rt; wrong == 0);
+}
+
+/// The words of a check of a `Small`.
+macro_rules! check {
+    ($from:literal $(, $more:literal)*) => {
+        &["asn1_relay", "check", "--module", "m.asn", "--type", "M.Small", "--from", $from $(, $more)*]
+    };
+}
+
+const CANONICAL: [Row; 3] = [
+    (check!("coer"), SMALL, b"\xFC", b"canonical\n"),
+    (check!("aper"), SMALL, b"\x10", b"canonical\n"),
+    (check!("uper", "--hex"), SMALL, b"10", b"canonical\n"),
+];
+
+#[test]
+fn canonical_messages(rt: HostRuntime) {
+    assert!(rt; first_wrong(rt.alloc(), &CANONICAL).is_none());
+}
+
+const NOT_CANONICAL: [Refused; 2] = [
+    (
+        check!("uper"),
+        b"\x11",
+        "asn1_relay: not canonical from octet 0 on: octet 0, bit 4: padding bits are not zero\n",
+    ),
+    (
+        check!("uper"),
+        b"\xB0",
+        "asn1_relay: not an encoding: octet 0, bit 0: a number is outside its value constraint\n",
+    ),
+];
+
+#[test]
+fn other_messages(rt: HostRuntime) {
+    let mut wrong = 0;
+    for (words, input, said) in NOT_CANONICAL {
+        if !is_refused(rt.alloc(), words, SMALL, input, b"", said) {
+            wrong += 1;
+        }
+    }
+    assert!(rt; wrong == 0);
+}
