@@ -1,6 +1,7 @@
 //! Why a text has no table.
 ghost use Rattle.std.specs.Prelude.{◌≡◌};
 
+use asn1_table_types::Flaw;
 use std::alloc::{AllocError, AllocFailed};
 use thiserror::Error;
 
@@ -58,6 +59,9 @@ pub enum Problem {
     /// A constraint in a form that is not supported.
     #[error("this constraint is not supported")]
     UnsupportedConstraint,
+    /// A type that is not lawful: what is wrong with it.
+    #[error("{0}")]
+    Unlawful(Flaw),
     /// Memory ran out.
     #[error("out of memory")]
     OutOfMemory,

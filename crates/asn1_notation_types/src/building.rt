@@ -3,7 +3,7 @@ use crate::defaults::default_of;
 use crate::parts::{Part, Parts, TaggedPart, alternatives_of, ordered, parts_of, tags_of_part};
 use crate::tables::Additions;
 use asn1_notation_resolving::{
-    Base, Files, NotationError, Numbered, Problem, TypeUse, ValueUse, alphabet, base_of,
+    Base, Files, NotationError, Numbered, Problem, Scope, TypeUse, ValueUse, alphabet, base_of,
     number_limits, number_of, numbers_of, sizes,
 };
 use asn1_notation_tree::{
@@ -24,6 +24,33 @@ use std::mem;
 /// An index outside each table, where a type without values is.
 const NO_TYPE: usize = usize::MAX;
 
+/// Where a type of the table is written.
+#[derive(Clone, Copy)]
+pub(crate) enum Origin {
+    /// A type of the notation.
+    Type(TypeUse),
+    /// A group of additions: its module, and the lexical item of its last component's name.
+    Group(Scope, usize),
+}
+
+impl Origin {
+    /// An error where the type is written: of a reference, where the type is for which it stands.
+    pub(crate) fn error(
+        self,
+        alloc: Global,
+        files: Files<'_, '_>,
+        problem: Problem,
+    ) -> NotationError {
+        match self {
+            Origin::Group(scope, place) => scope.error(place, problem),
+            Origin::Type(at) => match base_of(alloc, files, at) {
+                Ok(base) => base.error(problem),
+                Err(error) => error,
+            },
+        }
+    }
+}
+
 /// A table that grows: its types, the names beside them, and where each is written.
 #[derive(Drop)]
 pub(crate) struct Building<'a, 'i> {
@@ -32,8 +59,7 @@ pub(crate) struct Building<'a, 'i> {
     additions: Additions,
     pub(crate) nodes: Vec<TypeNode>,
     pub(crate) names: Vec<TypeNames>,
-    /// Where each type is written that is not built yet.
-    pub(crate) uses: Vec<Option<TypeUse>>,
+    pub(crate) origins: Vec<Origin>,
     /// The index of each type term, by files, if it has one.
     places: Vec<Vec<Option<usize>>>,
 }
@@ -57,7 +83,7 @@ impl<'a, 'i> Building<'a, 'i> {
             additions,
             nodes: Vec::new(alloc),
             names: Vec::new(alloc),
-            uses: Vec::new(alloc),
+            origins: Vec::new(alloc),
             places,
         })
     }
@@ -77,7 +103,7 @@ impl<'a, 'i> Building<'a, 'i> {
         if let Some(place) = known {
             return Ok(place);
         }
-        let place = self.add(TypeNode::Null, self.names_of(&base)?, Some(at))?;
+        let place = self.add(TypeNode::Null, self.names_of(&base)?, Origin::Type(at))?;
         if let Some(places) = self.places.get_mut(key.scope.file) {
             if let Some(known) = places.get_mut(key.index) {
                 *known = Some(place);
@@ -102,18 +128,18 @@ impl<'a, 'i> Building<'a, 'i> {
         &mut self,
         node: TypeNode,
         names: TypeNames,
-        at: Option<TypeUse>,
+        origin: Origin,
     ) -> Result<usize, NotationError> {
         let place = self.nodes.len();
         self.nodes.push(node)?;
         self.names.push(names)?;
-        self.uses.push(at)?;
+        self.origins.push(origin)?;
         Ok(place)
     }
 
     /// Builds the type at an index.
     pub(crate) fn build(&mut self, place: usize) -> Result<(), NotationError> {
-        let Some(Some(at)) = self.uses.get(place).copied() else {
+        let Some(Origin::Type(at)) = self.origins.get(place).copied() else {
             return Ok(());
         };
         let base = base_of(self.alloc, self.files, at)?;
@@ -398,20 +424,21 @@ impl<'a, 'i> Building<'a, 'i> {
             if next.and_then(|next| next.group) != part.group {
                 let done = mem::replace(&mut group, Grouped::new(self.alloc));
                 names.additions.push(String::new(self.alloc))?;
-                additions.push(self.group(done)?)?;
+                let origin = Origin::Group(part.at.scope, part.name.place);
+                additions.push(self.group(done, origin)?)?;
             }
         }
         Ok(())
     }
 
     /// A group of additions (X.680 25.1), which is a type of its own in the table.
-    fn group(&mut self, group: Grouped) -> Result<Component, NotationError> {
+    fn group(&mut self, group: Grouped, origin: Origin) -> Result<Component, NotationError> {
         let Grouped {
             tags,
             names,
             components,
         } = group;
-        let place = self.add(TypeNode::Group(components), names, None)?;
+        let place = self.add(TypeNode::Group(components), names, origin)?;
         Ok(Component {
             tags,
             presence: Presence::Optional,

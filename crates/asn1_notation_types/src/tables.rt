@@ -1,9 +1,11 @@
 //! Tables of the types that a type leads to.
-use crate::building::Building;
+ghost use Rattle.std.specs.Prelude.{◌<◌, ◌≤◌, IfErr, IfSome, length, slice_get};
+
+use crate::building::{Building, Origin};
 use asn1_notation_resolving::{Files, Index, NotationError, Problem, type_of_symbol};
 use asn1_notation_tree::Syntax;
 use asn1_table_names::Names;
-use asn1_table_types::TypeNode;
+use asn1_table_types::{TableError, Types};
 use std::alloc::Global;
 
 /// Whether an addition that is neither OPTIONAL nor has a DEFAULT may be absent.
@@ -18,8 +20,8 @@ pub enum Additions {
 /// A type and all types that it leads to.
 #[derive(Drop)]
 pub struct Table {
-    /// The types, by their indices.
-    pub nodes: Vec<TypeNode>,
+    /// The types, each of them lawful.
+    pub types: Types,
     /// Their names.
     pub names: Names,
     /// The index of the type.
@@ -30,9 +32,47 @@ pub struct Table {
 ///
 /// # Errors
 ///
-/// The lexical item at which something is wrong or not supported, or where the name is missing the first one of the
-/// first file.
+/// The lexical item at which something is wrong or not supported: where a type is not lawful, the one at which it is
+/// written; where the name is missing or memory ran out, the first one of the first file.
 pub fn table_of(
+    alloc: Global,
+    files: &[Syntax],
+    module: Option<&str>,
+    name: &str,
+    additions: Additions,
+) -> Result<Table, NotationError>
+    ensures file { IfErr result (λ e. 0 < length files.now → e.file < length files.now) }
+    ensures place { IfErr result (λ e. IfSome (slice_get files.now e.file)
+        (λ f. e.place ≤ length f.items.list.items)) }
+{
+    match built(alloc, files, module, name, additions) {
+        Ok(table) => Ok(table),
+        Err(error) => Err(located(files, error)),
+    }
+}
+
+/// An error at an item of some files, or at the end of one.
+fn located(files: &[Syntax], error: NotationError) -> NotationError
+    ensures file { 0 < length files.now → result.file < length files.now }
+    ensures place { IfSome (slice_get files.now result.file)
+        (λ f. result.place ≤ length f.items.list.items) }
+{
+    match files.get(error.file) {
+        Some(file) => NotationError {
+            file: error.file,
+            place: error.place.min(file.items.list.len()),
+            problem: error.problem,
+        },
+        None => NotationError {
+            file: 0,
+            place: 0,
+            problem: error.problem,
+        },
+    }
+}
+
+/// The table of a type.
+fn built(
     alloc: Global,
     files: &[Syntax],
     module: Option<&str>,
@@ -59,10 +99,45 @@ pub fn table_of(
         }
         building.build(next)?;
     }
-    let Building { nodes, names, .. } = building;
-    Ok(Table {
+    let Building {
         nodes,
-        names: Names { types: names },
-        place,
-    })
+        names,
+        origins,
+        ..
+    } = building;
+    match Types::new(alloc, nodes) {
+        Ok(types) => Ok(Table {
+            types,
+            names: Names { types: names },
+            place,
+        }),
+        Err(error) => Err(refused(alloc, files, origins.as_slice(), error)),
+    }
+}
+
+/// Why a table is refused, at the type that is not lawful.
+fn refused(
+    alloc: Global,
+    files: Files<'_, '_>,
+    origins: &[Origin],
+    error: TableError,
+) -> NotationError {
+    match error {
+        TableError::OutOfMemory => NotationError {
+            file: 0,
+            place: 0,
+            problem: Problem::OutOfMemory,
+        },
+        TableError::Unlawful { place, flaw } => {
+            let problem = Problem::Unlawful(flaw);
+            match origins.get(place) {
+                Some(origin) => origin.error(alloc, files, problem),
+                None => NotationError {
+                    file: 0,
+                    place: 0,
+                    problem,
+                },
+            }
+        }
+    }
 }

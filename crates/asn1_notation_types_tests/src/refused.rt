@@ -1,13 +1,14 @@
 //! Modules without a table for their type T: what is wrong, and where.
 use asn1_notation_syntax::{Syntax, read_syntax};
 use asn1_notation_types::{Additions, Problem, table_of};
+use asn1_table_types::Flaw;
 use std::alloc::Global;
 
 /// What is before the assignments.
 const BEGIN: &str = "M DEFINITIONS ::= BEGIN ";
 
 /// Assignments, what is wrong, and the octet from there on.
-const ROWS: [(&str, Problem, usize); 15] = [
+const ROWS: [(&str, Problem, usize); 18] = [
     ("T ::= A", Problem::UnknownType, 6),
     ("T ::= INTEGER (0..v)", Problem::UnknownValue, 18),
     ("T ::= A A ::= T", Problem::Circular, 6),
@@ -51,6 +52,21 @@ const ROWS: [(&str, Problem, usize); 15] = [
     ("T ::= ENUMERATED {a(1), b(1)}", Problem::ItemNumber, 24),
     ("T ::= SET {a NULL, b NULL}", Problem::TagTwice, 19),
     ("T ::= UniversalString", Problem::UnsupportedType, 6),
+    (
+        "T ::= SEQUENCE OF A A ::= CHOICE {a [0] NULL, ..., b [0] NULL}",
+        Problem::Unlawful(Flaw::TagTwice),
+        26,
+    ),
+    (
+        "T ::= SEQUENCE {a NULL, b INTEGER (0..7) DEFAULT 8}",
+        Problem::Unlawful(Flaw::DefaultOfOtherType),
+        6,
+    ),
+    (
+        "T ::= SEQUENCE {..., [[a NULL, b INTEGER (0..7) DEFAULT 8]]}",
+        Problem::Unlawful(Flaw::DefaultOfOtherType),
+        31,
+    ),
 ];
 
 /// The syntax of a module with some assignments.

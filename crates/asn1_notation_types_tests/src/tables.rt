@@ -2,7 +2,6 @@
 use crate::describing::described;
 use asn1_notation_syntax::{Syntax, read_syntax};
 use asn1_notation_types::{Additions, table_of};
-use asn1_table_types::Types;
 use std::alloc::Global;
 
 /// The assignments of modules with explicit tags, and the types of their tables.
@@ -134,16 +133,16 @@ fn syntax_of(alloc: Global, tags: &str, assignments: &str) -> Option<Syntax> {
     read_syntax(alloc, text.as_bytes()).ok()
 }
 
-/// Whether the table of T has these types, and all are lawful.
+/// Whether the table of T has these types.
 fn is_table(alloc: Global, files: &[Syntax], wanted: &str) -> bool {
     let Ok(table) = table_of(alloc, files, None, "T", Additions::MayBeAbsent) else {
         return false;
     };
-    let is_described = match described(alloc, table.nodes.as_slice()) {
+    let is_described = match described(alloc, table.types.nodes()) {
         Ok(text) => text.as_str() == wanted,
         Err(_) => false,
     };
-    is_described && table.place == 0 && Types::new(alloc, table.nodes).is_ok()
+    is_described && table.place == 0
 }
 
 /// The first of some rows that does not hold.
