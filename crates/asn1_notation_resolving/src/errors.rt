@@ -44,6 +44,9 @@ pub enum Problem {
     /// A tag's number is negative, or above 2^32 - 1.
     #[error("the number of a tag is out of range")]
     TagOutOfRange,
+    /// An arc of an object identifier is negative, or above 2^32 - 1.
+    #[error("an arc of an object identifier is out of range")]
+    ArcOutOfRange,
     /// Two components or alternatives have one tag (X.680 25.6, 27.3 and 29.4).
     #[error("another component or alternative has this tag")]
     TagTwice,

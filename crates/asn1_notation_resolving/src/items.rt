@@ -20,6 +20,23 @@ pub struct Numbers<'a> {
     pub additions: Vec<Numbered<'a>>,
 }
 
+impl Numbers<'_> {
+    /// The number of the item with a name.
+    pub fn find(&self, name: &str) -> Option<isize> {
+        for item in &self.root {
+            if item.name.text.as_str() == name {
+                return Some(item.number);
+            }
+        }
+        for item in &self.additions {
+            if item.name.text.as_str() == name {
+                return Some(item.number);
+            }
+        }
+        None
+    }
+}
+
 /// The number that is given for an item, if one is.
 fn given(
     files: Files<'_, '_>,

@@ -3,6 +3,7 @@
 
 mod bases;
 mod errors;
+mod identifiers;
 mod items;
 mod limits;
 mod numbers;
@@ -12,8 +13,9 @@ mod tags;
 
 pub use bases::{Base, ConstraintUse, base_of, type_of_symbol};
 pub use errors::{NotationError, Problem};
+pub use identifiers::arcs_of;
 pub use items::{Numbered, Numbers, numbers_of};
 pub use limits::{alphabet, number_limits, sizes};
-pub use numbers::{ValueUse, integer_of, number_of, settled};
+pub use numbers::{ValueUse, integer_of, item_of, number_of, settled};
 pub use scopes::{Files, Index, Scope, Symbol, TypeUse};
 pub use tags::{is_written_tagged, tagged_base};

@@ -1,7 +1,8 @@
-//! Numbers, by themselves or by name.
+//! Numbers and items, by themselves or by name.
 use crate::errors::{NotationError, Problem};
+use crate::items::Numbers;
 use crate::scopes::{Files, Scope, Symbol};
-use asn1_notation_tree::{AssignmentKind, NamedNumber, Reference, ValueIndex, ValueKind};
+use asn1_notation_tree::{AssignmentKind, Name, NamedNumber, Reference, ValueIndex, ValueKind};
 
 /// How many references are followed from a value to its notation.
 const MOST_STEPS: usize = 64;
@@ -34,17 +35,29 @@ pub fn named<'a>(numbers: &'a [NamedNumber], name: &str) -> Option<&'a NamedNumb
     None
 }
 
+/// The value that a name stands for (X.680 17.5), after the name of its module if that is given.
+pub fn referenced(
+    files: Files<'_, '_>,
+    scope: Scope,
+    module: Option<&Name>,
+    name: &Name,
+) -> Result<ValueUse, NotationError> {
+    let Some(symbol) = files.find(scope, module, name) else {
+        return Err(scope.error(name.place, Problem::UnknownValue));
+    };
+    value_of_symbol(files, symbol).ok_or(scope.error(name.place, Problem::UnknownValue))
+}
+
 /// The value that a reference stands for (X.680 17.5).
-fn referenced(
+fn next_of(
     files: Files<'_, '_>,
     scope: Scope,
     reference: &Reference,
 ) -> Result<ValueUse, NotationError> {
-    let place = reference.name.place;
-    let Some(symbol) = files.find(scope, reference) else {
-        return Err(scope.error(place, Problem::UnknownValue));
-    };
-    value_of_symbol(files, symbol).ok_or(scope.error(place, Problem::UnknownValue))
+    if !reference.parameters.is_empty() {
+        return Err(scope.error(reference.name.place, Problem::Parameterised));
+    }
+    referenced(files, scope, reference.module.as_ref(), &reference.name)
 }
 
 /// The value that an assignment defines.
@@ -63,7 +76,7 @@ pub fn settled(files: Files<'_, '_>, start: ValueUse) -> Result<ValueUse, Notati
     let mut at = start;
     for _ in 0..MOST_STEPS {
         match &files.value_term(at.scope, at.index)?.kind {
-            ValueKind::Reference(reference) => at = referenced(files, at.scope, reference)?,
+            ValueKind::Reference(reference) => at = next_of(files, at.scope, reference)?,
             _ => return Ok(at),
         }
     }
@@ -87,17 +100,39 @@ pub fn integer_of(
     numbers: &[NamedNumber],
     value: ValueUse,
 ) -> Result<i128, NotationError> {
-    if let ValueKind::Reference(reference) = &files.value_term(value.scope, value.index)?.kind {
-        if let Some(number) = named(numbers, reference.name.text.as_str()) {
-            let index = number.number;
-            return number_of(
-                files,
-                ValueUse {
-                    scope: names,
-                    index,
-                },
-            );
+    let mut at = value;
+    for _ in 0..MOST_STEPS {
+        match &files.value_term(at.scope, at.index)?.kind {
+            ValueKind::Number(number) => return Ok(*number),
+            ValueKind::Reference(reference) => {
+                if let Some(number) = named(numbers, reference.name.text.as_str()) {
+                    let index = number.number;
+                    let scope = names;
+                    return number_of(files, ValueUse { scope, index });
+                }
+                at = next_of(files, at.scope, reference)?;
+            }
+            _ => return Err(value.error(files, Problem::ValueOfOtherType)),
         }
     }
-    number_of(files, value)
+    Err(value.error(files, Problem::Circular))
+}
+
+/// The number of an item of an ENUMERATED, by its name or by that of a value (X.680 20.8).
+pub fn item_of(
+    files: Files<'_, '_>,
+    items: &Numbers<'_>,
+    value: ValueUse,
+) -> Result<isize, NotationError> {
+    let mut at = value;
+    for _ in 0..MOST_STEPS {
+        let ValueKind::Reference(reference) = &files.value_term(at.scope, at.index)?.kind else {
+            return Err(value.error(files, Problem::ValueOfOtherType));
+        };
+        if let Some(number) = items.find(reference.name.text.as_str()) {
+            return Ok(number);
+        }
+        at = next_of(files, at.scope, reference)?;
+    }
+    Err(value.error(files, Problem::Circular))
 }

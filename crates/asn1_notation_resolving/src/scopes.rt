@@ -1,7 +1,7 @@
 //! Modules, and what their names stand for (X.680 13).
 use crate::errors::{NotationError, Problem};
 use asn1_notation_tree::{
-    Assignment, ConstraintIndex, ConstraintTerm, Module, Reference, Syntax, TypeIndex, TypeTerm,
+    Assignment, ConstraintIndex, ConstraintTerm, Module, Name, Syntax, TypeIndex, TypeTerm,
     ValueIndex, ValueTerm,
 };
 use std::alloc::{AllocError, Global};
@@ -203,11 +203,11 @@ impl<'a, 'i> Files<'a, 'i> {
         self.find_module(import.module.text.as_str())
     }
 
-    /// What a reference in a module stands for: an assignment of the module itself, or of one from which it imports the
-    /// name, through at most 64 modules.
-    pub fn find(self, scope: Scope, reference: &Reference) -> Option<Symbol> {
-        let name = reference.name.text.as_str();
-        if let Some(module) = &reference.module {
+    /// What a name in a module stands for, after the name of a module if that is given: an assignment of the module
+    /// itself, or of one from which it imports the name, through at most 64 modules.
+    pub fn find(self, scope: Scope, module: Option<&Name>, name: &Name) -> Option<Symbol> {
+        let name = name.text.as_str();
+        if let Some(module) = module {
             return self.find_in(self.find_module(module.text.as_str())?, name);
         }
         let mut scope = scope;

@@ -1,5 +1,5 @@
 //! The nodes of a table (X.680 18 to 41).
-use crate::defaults::default_of;
+use crate::defaults::{default_of, fixed_size};
 use crate::parts::{Part, Parts, TaggedPart, alternatives_of, ordered, parts_of, tags_of_part};
 use crate::tables::Additions;
 use asn1_notation_resolving::{
@@ -10,7 +10,7 @@ use asn1_notation_tree::{
     Components, Element, Enumeration, NamedNumber, Presence as WrittenPresence, StringName,
     TypeKind,
 };
-use asn1_schema_constraints::{Bounded, Sizes};
+use asn1_schema_constraints::Sizes;
 use asn1_schema_tags::Tag;
 use asn1_table_names::{NamedNumber as NumberName, TypeNames};
 use asn1_table_types::{
@@ -265,8 +265,7 @@ impl<'a, 'i> Building<'a, 'i> {
     ) -> Result<TypeNode, NotationError> {
         self.number_names(base, bits, names)?;
         let sizes = self.sizes(base)?;
-        let is_fixed = matches!(sizes.root, Bounded::Single(_)) && !sizes.is_extensible;
-        if !bits.is_empty() && !is_fixed {
+        if !bits.is_empty() && fixed_size(&sizes).is_none() {
             return Err(base.error(Problem::NamedBits));
         }
         Ok(TypeNode::BitString(sizes))

@@ -1,14 +1,23 @@
 //! Defaults (X.680 25.9).
+use crate::parts::alternatives_of;
 use asn1_notation_resolving::{
-    Base, Files, NotationError, Problem, TypeUse, ValueUse, base_of, integer_of, numbers_of,
-    settled,
+    Base, Files, NotationError, Problem, TypeUse, ValueUse, arcs_of, base_of, integer_of, item_of,
+    numbers_of, settled, sizes,
 };
-use asn1_notation_tree::{Element, Enumeration, NamedNumber, StringName, TypeKind, ValueKind};
+use asn1_notation_tree::{
+    Components, Element, Enumeration, ListElement, NamedNumber, StringName, TypeKind, ValueKind,
+};
+use asn1_schema_constraints::{Bounded, Sizes};
 use asn1_table_types::{DefaultValue, Event};
 use asn1_values_bit_strings::BitString;
+use asn1_values_identifiers::ObjectIdentifier;
 use asn1_values_integers::Integer;
 use std::alloc::Global;
+use std::borrow::CowSlice;
 use std::str;
+
+/// How many bits a default with named bits has at most.
+const MOST_BITS: usize = 65_536;
 
 /// Values of a type, and where they are written.
 #[derive(Clone, Copy)]
@@ -20,10 +29,10 @@ struct Valued<'a, 'b, 'i> {
 }
 
 /// The default of a component of a type.
-pub(crate) fn default_of(
+pub(crate) fn default_of<'a>(
     alloc: Global,
-    files: Files<'_, '_>,
-    base: &Base<'_>,
+    files: Files<'a, '_>,
+    base: &Base<'a>,
     value: ValueUse,
 ) -> Result<DefaultValue, NotationError> {
     match &base.term.kind {
@@ -39,8 +48,34 @@ pub(crate) fn default_of(
             }
             Err(value.error(files, Problem::UnsupportedDefault))
         }
+        TypeKind::Choice(components) => chosen_of(alloc, files, base, components, value),
         _ => Ok(DefaultValue::Simple(event_of(alloc, files, base, value)?)),
     }
+}
+
+/// The chosen alternative of a CHOICE and its value (X.680 29.11), which has no parts.
+fn chosen_of<'a>(
+    alloc: Global,
+    files: Files<'a, '_>,
+    base: &Base<'a>,
+    components: &'a Components,
+    value: ValueUse,
+) -> Result<DefaultValue, NotationError> {
+    let at = settled(files, value)?;
+    let ValueKind::Choice(name, index) = &files.value_term(at.scope, at.index)?.kind else {
+        return Err(value.error(files, Problem::ValueOfOtherType));
+    };
+    let alternatives = alternatives_of(alloc, files, base.at.scope, components)?;
+    let Some((chosen, part)) = alternatives.find(name.text.as_str()) else {
+        return Err(at.scope.error(name.place, Problem::UnknownValue));
+    };
+    let base = base_of(alloc, files, part.at)?;
+    let inner = ValueUse {
+        scope: at.scope,
+        index: *index,
+    };
+    let event = event_of(alloc, files, &base, inner)?;
+    Ok(DefaultValue::Choice(chosen, event))
 }
 
 /// The elements of a list (X.680 26.3 and 28.3), each without parts.
@@ -71,6 +106,14 @@ fn elements_of(
     Ok(events)
 }
 
+/// The size, if it is fixed.
+pub(crate) fn fixed_size(sizes: &Sizes) -> Option<usize> {
+    match sizes.root {
+        Bounded::Single(size) if !sizes.is_extensible => Some(size),
+        _ => None,
+    }
+}
+
 /// A value without parts, of a type.
 fn event_of(
     alloc: Global,
@@ -92,6 +135,7 @@ fn event_of(
         TypeKind::BitString(names) => valued.bits(names.as_slice()),
         TypeKind::OctetString => valued.octets(),
         TypeKind::CharacterString(name) => valued.text(*name),
+        TypeKind::ObjectIdentifier => valued.arcs(),
         _ => Err(valued.error(Problem::UnsupportedDefault)),
     }
 }
@@ -121,45 +165,90 @@ impl Valued<'_, '_, '_> {
     fn item(self, items: &Enumeration) -> Result<Event, NotationError> {
         let scope = self.base.at.scope;
         let numbers = numbers_of(self.alloc, self.files, scope, items)?;
-        let term = self.files.value_term(self.value.scope, self.value.index)?;
-        let ValueKind::Reference(reference) = &term.kind else {
-            return Err(self.error(Problem::ValueOfOtherType));
-        };
-        let name = reference.name.text.as_str();
-        for item in &numbers.root {
-            if item.name.text.as_str() == name {
-                return Ok(Event::Item(item.number));
-            }
-        }
-        for item in &numbers.additions {
-            if item.name.text.as_str() == name {
-                return Ok(Event::Item(item.number));
-            }
-        }
-        Err(self.error(Problem::UnknownValue))
+        Ok(Event::Item(item_of(self.files, &numbers, self.value)?))
     }
 
-    /// A value of BIT STRING (X.680 22.9): a bstring, an hstring, or no named bit.
+    /// A value of BIT STRING (X.680 22.9): a bstring, an hstring, or named bits.
     fn bits(self, names: &[NamedNumber]) -> Result<Event, NotationError> {
         let at = settled(self.files, self.value)?;
-        let mut bits = BitString::new(self.alloc);
+        let mut all = Vec::new(self.alloc);
         match &self.files.value_term(at.scope, at.index)?.kind {
             ValueKind::Binary(digits) => {
                 for digit in digits {
-                    bits.push(*digit == 1)?;
+                    all.push(*digit == 1)?;
                 }
             }
             ValueKind::Hexadecimal(digits) => {
                 for digit in digits {
                     for weight in [8, 4, 2, 1] {
-                        bits.push(digit & weight != 0)?;
+                        all.push(digit & weight != 0)?;
                     }
                 }
             }
-            ValueKind::List(elements) if elements.is_empty() && names.is_empty() => {}
-            _ => return Err(self.error(Problem::UnsupportedDefault)),
+            ValueKind::List(elements) => {
+                self.set_named(at, elements.as_slice(), names, &mut all)?;
+            }
+            _ => return Err(self.error(Problem::ValueOfOtherType)),
+        }
+        if !names.is_empty() {
+            self.fit(&mut all)?;
+        }
+        let mut bits = BitString::new(self.alloc);
+        for bit in &all {
+            bits.push(*bit)?;
         }
         Ok(Event::Bits(bits))
+    }
+
+    /// Sets named bits (X.680 22.10).
+    fn set_named(
+        self,
+        at: ValueUse,
+        elements: &[ListElement],
+        names: &[NamedNumber],
+        bits: &mut Vec<bool>,
+    ) -> Result<(), NotationError> {
+        if elements.is_empty() {
+            return Ok(());
+        }
+        self.fit(bits)?;
+        for element in elements {
+            let bit = ValueUse {
+                scope: at.scope,
+                index: element.value,
+            };
+            let number = integer_of(self.files, self.base.at.scope, names, bit)?;
+            let place = usize::try_from(number).ok();
+            match place.and_then(|place| bits.get_mut(place)) {
+                Some(bit) => *bit = true,
+                None => return Err(bit.error(self.files, Problem::ValueOfOtherType)),
+            }
+        }
+        Ok(())
+    }
+
+    /// Adds zeros to bits, or removes them from their end, up to the fixed size of the type (X.680 22.7).
+    fn fit(self, bits: &mut Vec<bool>) -> Result<(), NotationError> {
+        let Some(size) = fixed_size(&sizes(self.alloc, self.files, self.base)?) else {
+            return Err(self.base.error(Problem::NamedBits));
+        };
+        if size > MOST_BITS {
+            return Err(self.error(Problem::UnsupportedDefault));
+        }
+        let is_longer = bits.iter().skip(size).any(|bit| *bit);
+        if !is_longer {
+            bits.resize(size, false)?;
+        }
+        Ok(())
+    }
+
+    /// A value of OBJECT IDENTIFIER (X.680 32.3).
+    fn arcs(self) -> Result<Event, NotationError> {
+        let arcs = arcs_of(self.alloc, self.files, self.value)?;
+        match ObjectIdentifier::new(CowSlice::Owned(arcs)) {
+            Some(identifier) => Ok(Event::Arcs(identifier)),
+            None => Err(self.error(Problem::ValueOfOtherType)),
+        }
     }
 
     /// A value of a character string (X.680 41.8): its characters by their numbers, or its octets in UTF-8.

@@ -9,7 +9,7 @@ use asn1_notation_rules::{
 use asn1_notation_tree::{
     Addition, Component, Components, Name, Presence, TagDefault as WrittenTagDefault, TypeKind,
 };
-use asn1_schema_tags::Tag;
+use asn1_schema_tags::{Chosen, Tag};
 use std::alloc::{AllocError, Global};
 use std::slice;
 
@@ -251,6 +251,25 @@ pub(crate) struct Alternatives<'a> {
     pub(crate) root: Vec<TaggedPart<'a>>,
     pub(crate) is_extensible: bool,
     pub(crate) additions: Vec<TaggedPart<'a>>,
+}
+
+impl<'a> Alternatives<'a> {
+    /// The alternative with a name.
+    pub(crate) fn find(&self, name: &str) -> Option<(Chosen, Part<'a>)> {
+        for place in 0..self.root.len() {
+            let part = self.root[place].part;
+            if part.name.text.as_str() == name {
+                return Some((Chosen::root(place), part));
+            }
+        }
+        for place in 0..self.additions.len() {
+            let part = self.additions[place].part;
+            if part.name.text.as_str() == name {
+                return Some((Chosen::addition(place), part));
+            }
+        }
+        None
+    }
 }
 
 /// An alternative with its tag: an automatic one, or its own.

@@ -5,6 +5,7 @@ use asn1_table_types::{
     AlternativeTable, Component, ComponentTable, DefaultValue, Event, ItemTable, Presence,
     StringKind, StringTable, TypeNode,
 };
+use asn1_values_bit_strings::BitString;
 use std::alloc::{AllocError, Global};
 use std::fmt::Display;
 
@@ -157,7 +158,11 @@ fn describe_default(text: &mut String, value: &DefaultValue) -> Result<(), Alloc
         }
         DefaultValue::SetOf(None) => write!(text, " empty"),
         DefaultValue::SetOf(Some(event)) => describe_event(text, event),
-        DefaultValue::Choice(_, event) => describe_event(text, event),
+        DefaultValue::Choice(chosen, event) => {
+            let list = if chosen.added { "added" } else { "root" };
+            write!(text, " {list} {}", chosen.place)?;
+            describe_event(text, event)
+        }
     }
 }
 
@@ -168,15 +173,33 @@ fn describe_event(text: &mut String, event: &Event) -> Result<(), AllocError> {
         Event::Nothing => write!(text, " NULL"),
         Event::Number(number) => write!(text, " {number}"),
         Event::Item(item) => write!(text, " item {item}"),
-        Event::Bits(bits) => write!(text, " {} bits", bits.len()),
+        Event::Bits(bits) => describe_bits(text, bits),
         Event::Octets(octets) | Event::Text(octets) => {
             for octet in octets {
                 write!(text, " {octet}")?;
             }
             Ok(())
         }
-        Event::Arcs(_) => write!(text, " arcs"),
+        Event::Arcs(identifier) => {
+            for arc in identifier.as_slice() {
+                write!(text, " {arc}")?;
+            }
+            Ok(())
+        }
     }
+}
+
+/// Bits, each as a digit.
+fn describe_bits(text: &mut String, bits: &BitString) -> Result<(), AllocError> {
+    write!(text, " bits ")?;
+    for index in 0..bits.len() {
+        let digit = match bits.get(index) {
+            Some(true) => "1",
+            _ => "0",
+        };
+        write!(text, "{digit}")?;
+    }
+    Ok(())
 }
 
 /// Components: the tags, the index of the type, and whether it may be absent.

@@ -8,7 +8,7 @@ use std::alloc::Global;
 const BEGIN: &str = "M DEFINITIONS ::= BEGIN ";
 
 /// Assignments, what is wrong, and the octet from there on.
-const ROWS: [(&str, Problem, usize); 18] = [
+const ROWS: [(&str, Problem, usize); 22] = [
     ("T ::= A", Problem::UnknownType, 6),
     ("T ::= INTEGER (0..v)", Problem::UnknownValue, 18),
     ("T ::= A A ::= T", Problem::Circular, 6),
@@ -66,6 +66,26 @@ const ROWS: [(&str, Problem, usize); 18] = [
         "T ::= SEQUENCE {..., [[a NULL, b INTEGER (0..7) DEFAULT 8]]}",
         Problem::Unlawful(Flaw::DefaultOfOtherType),
         31,
+    ),
+    (
+        "T ::= SEQUENCE {a CHOICE {b NULL} DEFAULT c : NULL}",
+        Problem::UnknownValue,
+        42,
+    ),
+    (
+        "T ::= SEQUENCE {a OBJECT IDENTIFIER DEFAULT {2 5 4294967296}}",
+        Problem::ArcOutOfRange,
+        49,
+    ),
+    (
+        "T ::= SEQUENCE {a OBJECT IDENTIFIER DEFAULT v} v OBJECT IDENTIFIER ::= {v 1}",
+        Problem::Circular,
+        72,
+    ),
+    (
+        "T ::= SEQUENCE {a BIT STRING {p(0), q(9)} (SIZE (5)) DEFAULT {q}}",
+        Problem::ValueOfOtherType,
+        62,
     ),
 ];
 

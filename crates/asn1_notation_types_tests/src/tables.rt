@@ -115,7 +115,7 @@ const AUTOMATIC: [(&str, &str); 9] = [
     ),
     (
         "T ::= SEQUENCE {a OCTET STRING DEFAULT 'ABC'H, b BIT STRING DEFAULT '101'B}",
-        "0 SEQUENCE [0] 1 DEFAULT 171 192, [1] 2 DEFAULT 3 bits,; 1 OCTET STRING; 2 BIT STRING; ",
+        "0 SEQUENCE [0] 1 DEFAULT 171 192, [1] 2 DEFAULT bits 101,; 1 OCTET STRING; 2 BIT STRING; ",
     ),
     (
         "T ::= SEQUENCE {a SEQUENCE OF INTEGER DEFAULT {}, b SET OF NULL DEFAULT {NULL}}",
@@ -146,7 +146,11 @@ fn is_table(alloc: Global, files: &[Syntax], wanted: &str) -> bool {
 }
 
 /// The first of some rows that does not hold.
-fn first_wrong<'a>(alloc: Global, tags: &str, rows: &'a [(&'a str, &'a str)]) -> Option<&'a str> {
+pub fn first_wrong<'a>(
+    alloc: Global,
+    tags: &str,
+    rows: &'a [(&'a str, &'a str)],
+) -> Option<&'a str> {
     for (assignments, wanted) in rows {
         let Some(syntax) = syntax_of(alloc, tags, assignments) else {
             return Some(assignments);
