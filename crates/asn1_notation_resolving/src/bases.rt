@@ -48,9 +48,8 @@ pub fn referenced(
     if !reference.parameters.is_empty() {
         return Err(scope.error(place, Problem::Parameterised));
     }
-    let Some(symbol) = files.find(scope, reference.module.as_ref(), &reference.name) else {
-        return Err(scope.error(place, Problem::UnknownType));
-    };
+    let module = reference.module.as_ref();
+    let symbol = files.find(scope, module, &reference.name, Problem::UnknownType)?;
     let at = type_of_symbol(files, symbol).map_err(|problem| scope.error(place, problem))?;
     Ok((symbol, at))
 }

@@ -1,8 +1,10 @@
 //! Why a text has no table.
 ghost use Rattle.std.specs.Prelude.{◌≡◌};
 
+use asn1_notation_tree::Syntax;
 use asn1_table_types::Flaw;
 use std::alloc::{AllocError, AllocFailed};
+use std::fmt;
 use thiserror::Error;
 
 /// What is wrong, or not supported.
@@ -14,6 +16,9 @@ pub enum Problem {
     /// No value has this name.
     #[error("no such value")]
     UnknownValue,
+    /// No module has this name.
+    #[error("no such module among the files")]
+    UnknownModule,
     /// A name leads to itself, or to another one more than 64 times.
     #[error("the definition leads back to itself")]
     Circular,
@@ -70,8 +75,30 @@ pub enum Problem {
     OutOfMemory,
 }
 
+/// A module, or an assignment of one.
+#[derive(Clone, Copy, Debug, PartialEq, Eq, Hash)]
+pub struct Near {
+    /// The index of the file.
+    pub file: usize,
+    /// The index of the module in it.
+    pub module: usize,
+    /// The index of the assignment in that, if it is one.
+    pub assignment: Option<usize>,
+}
+
+impl Near {
+    /// Its name.
+    pub fn name(self, files: &[Syntax]) -> Option<&str> {
+        let module = files.get(self.file)?.modules.get(self.module)?;
+        match self.assignment {
+            None => Some(module.name.text.as_str()),
+            Some(index) => Some(module.assignments.get(index)?.name.text.as_str()),
+        }
+    }
+}
+
 /// What is wrong with a text, and where.
-#[derive(Clone, Copy, Debug, PartialEq, Eq, Hash, Drop)]
+#[derive(Clone, Copy, Debug, PartialEq, Eq, Hash)]
 pub struct NotationError {
     /// The index of the file.
     pub file: usize,
@@ -79,15 +106,56 @@ pub struct NotationError {
     pub place: usize,
     /// What is wrong.
     pub problem: Problem,
+    /// What has nearly the name that is unknown, if something has.
+    pub near: Option<Near>,
+}
+
+impl NotationError {
+    /// An error at the first lexical item of the first file.
+    pub fn new(problem: Problem) -> Self {
+        NotationError {
+            file: 0,
+            place: 0,
+            problem,
+            near: None,
+        }
+    }
+
+    /// The text of the error, with the name that may have been meant.
+    pub fn explained(self, files: &[Syntax]) -> Explained<'_> {
+        Explained {
+            problem: self.problem,
+            suggestion: match self.near {
+                Some(near) => near.name(files),
+                None => None,
+            },
+        }
+    }
+}
+
+/// What is wrong with a text, such as «no such type; did you mean `Message`?».
+#[derive(Clone, Copy, Debug, PartialEq, Eq)]
+pub struct Explained<'a> {
+    /// What is wrong.
+    pub problem: Problem,
+    /// The name that may have been meant.
+    pub suggestion: Option<&'a str>,
+}
+
+impl fmt::Display for Explained<'_> {
+    fn fmt<W: fmt::Write>(&self, f: &mut fmt::Formatter<W>) -> fmt::Result {
+        let problem = self.problem;
+        write!(f, "{problem}")?;
+        match self.suggestion {
+            Some(name) => write!(f, "; did you mean `{name}`?"),
+            None => Ok(()),
+        }
+    }
 }
 
 impl From<AllocError> for NotationError {
     fn from(_refused: AllocError) -> Self {
-        NotationError {
-            file: 0,
-            place: 0,
-            problem: Problem::OutOfMemory,
-        }
+        NotationError::new(Problem::OutOfMemory)
     }
 }
 

@@ -9,10 +9,11 @@ mod limits;
 mod numbers;
 mod scopes;
 mod sets;
+mod suggestions;
 mod tags;
 
 pub use bases::{Base, ConstraintUse, base_of, type_of_symbol};
-pub use errors::{NotationError, Problem};
+pub use errors::{Explained, Near, NotationError, Problem};
 pub use identifiers::arcs_of;
 pub use items::{Numbered, Numbers, numbers_of};
 pub use limits::{alphabet, number_limits, sizes};

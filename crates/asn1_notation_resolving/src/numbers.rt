@@ -42,9 +42,7 @@ pub fn referenced(
     module: Option<&Name>,
     name: &Name,
 ) -> Result<ValueUse, NotationError> {
-    let Some(symbol) = files.find(scope, module, name) else {
-        return Err(scope.error(name.place, Problem::UnknownValue));
-    };
+    let symbol = files.find(scope, module, name, Problem::UnknownValue)?;
     value_of_symbol(files, symbol).ok_or(scope.error(name.place, Problem::UnknownValue))
 }
 

@@ -1,7 +1,10 @@
 //! Modules, and what their names stand for (X.680 13).
 use crate::errors::{NotationError, Problem};
+use crate::suggestions::{
+    unknown_first_module, unknown_first_type, unknown_module, unknown_symbol,
+};
 use asn1_notation_tree::{
-    Assignment, ConstraintIndex, ConstraintTerm, Module, Name, Syntax, TypeIndex, TypeTerm,
+    Assignment, ConstraintIndex, ConstraintTerm, Import, Module, Name, Syntax, TypeIndex, TypeTerm,
     ValueIndex, ValueTerm,
 };
 use std::alloc::{AllocError, Global};
@@ -13,6 +16,9 @@ pub struct Scope {
     pub module: usize,
 }
 
+/// Through how many modules a name is followed.
+const MOST_MODULES: usize = 64;
+
 /// The first module of the first file.
 const FIRST: Scope = Scope { file: 0, module: 0 };
 
@@ -23,6 +29,7 @@ impl Scope {
             file: self.file,
             place,
             problem,
+            near: None,
         }
     }
 }
@@ -131,6 +138,7 @@ fn entry_in<'a>(entries: &[Entry<'a>], name: &str, scope: Scope) -> Option<Entry
 /// The files of a table, and their names.
 #[derive(Clone, Copy)]
 pub struct Files<'a, 'i> {
+    pub alloc: Global,
     pub files: &'a [Syntax],
     pub index: &'i Index<'a>,
 }
@@ -196,39 +204,102 @@ impl<'a, 'i> Files<'a, 'i> {
         })
     }
 
-    /// The module from which another one imports a name.
-    fn exporter(self, scope: Scope, name: &str) -> Option<Scope> {
+    /// The import by which a module has a name, and the name there.
+    fn import_of(self, scope: Scope, name: &str) -> Option<(&'a Import, &'a Name)> {
         let entry = entry_in(self.index.imported.as_slice(), name, scope)?;
         let import = self.module(scope)?.imports.get(entry.index)?;
-        self.find_module(import.module.text.as_str())
-    }
-
-    /// What a name in a module stands for, after the name of a module if that is given: an assignment of the module
-    /// itself, or of one from which it imports the name, through at most 64 modules.
-    pub fn find(self, scope: Scope, module: Option<&Name>, name: &Name) -> Option<Symbol> {
-        let name = name.text.as_str();
-        if let Some(module) = module {
-            return self.find_in(self.find_module(module.text.as_str())?, name);
-        }
-        let mut scope = scope;
-        for _ in 0..64 {
-            if let Some(found) = self.find_in(scope, name) {
-                return Some(found);
+        for symbol in &import.symbols {
+            if symbol.text.as_str() == name {
+                return Some((import, symbol));
             }
-            scope = self.exporter(scope, name)?;
         }
         None
     }
 
-    /// The first assignment with a name, of all modules or of the one that is named.
-    pub fn find_type(self, module: Option<&str>, name: &str) -> Option<Symbol> {
-        if let Some(module) = module {
-            return self.find_in(self.find_module(module)?, name);
+    /// What a name in a module stands for: an assignment of the module itself, or of one from which it imports the
+    /// name, through at most 64 modules.
+    pub fn find_symbol(self, scope: Scope, name: &str) -> Option<Symbol> {
+        let mut scope = scope;
+        for _ in 0..MOST_MODULES {
+            if let Some(found) = self.find_in(scope, name) {
+                return Some(found);
+            }
+            let (import, _) = self.import_of(scope, name)?;
+            scope = self.find_module(import.module.text.as_str())?;
         }
-        let entry = first_from(self.index.defined.as_slice(), name, FIRST)?;
-        Some(Symbol {
-            scope: entry.scope,
-            index: entry.index,
-        })
+        None
+    }
+
+    /// What a name in a module stands for, after the name of a module if that is given.
+    ///
+    /// # Errors
+    ///
+    /// `UnknownModule` at the name of a module that is not among the files, there or in an IMPORTS. The problem that is
+    /// given, if nothing has the name: at it, or where it is imported.
+    pub fn find(
+        self,
+        scope: Scope,
+        module: Option<&Name>,
+        name: &Name,
+        missing: Problem,
+    ) -> Result<Symbol, NotationError> {
+        let text = name.text.as_str();
+        if let Some(module) = module {
+            let Some(searched) = self.find_module(module.text.as_str()) else {
+                return Err(unknown_module(self, scope, module));
+            };
+            return match self.find_in(searched, text) {
+                Some(found) => Ok(found),
+                None => Err(unknown_symbol(self, scope, searched, text, name.place, missing)),
+            };
+        }
+        match self.find_symbol(scope, text) {
+            Some(found) => Ok(found),
+            None => Err(self.missed(scope, name, missing)),
+        }
+    }
+
+    /// Why a name in a module stands for nothing.
+    fn missed(self, scope: Scope, name: &Name, missing: Problem) -> NotationError {
+        let text = name.text.as_str();
+        let mut scope = scope;
+        let mut searched = scope;
+        let mut place = name.place;
+        for _ in 0..MOST_MODULES {
+            let Some((import, symbol)) = self.import_of(searched, text) else {
+                return unknown_symbol(self, scope, searched, text, place, missing);
+            };
+            scope = searched;
+            place = symbol.place;
+            match self.find_module(import.module.text.as_str()) {
+                Some(exporter) => searched = exporter,
+                None => return unknown_module(self, scope, &import.module),
+            }
+        }
+        scope.error(place, Problem::Circular)
+    }
+
+    /// The first assignment with a name, of all modules or of the one that is named.
+    ///
+    /// # Errors
+    ///
+    /// `UnknownModule` or `UnknownType` at the first lexical item.
+    pub fn find_type(self, module: Option<&str>, name: &str) -> Result<Symbol, NotationError> {
+        if let Some(module) = module {
+            let Some(scope) = self.find_module(module) else {
+                return Err(unknown_first_module(self, module));
+            };
+            return match self.find_in(scope, name) {
+                Some(found) => Ok(found),
+                None => Err(unknown_first_type(self, Some(scope), name)),
+            };
+        }
+        match first_from(self.index.defined.as_slice(), name, FIRST) {
+            Some(entry) => Ok(Symbol {
+                scope: entry.scope,
+                index: entry.index,
+            }),
+            None => Err(unknown_first_type(self, None, name)),
+        }
     }
 }

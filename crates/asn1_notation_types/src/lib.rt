@@ -6,5 +6,5 @@ mod defaults;
 mod parts;
 mod tables;
 
-pub use asn1_notation_resolving::{NotationError, Problem};
+pub use asn1_notation_resolving::{Explained, Near, NotationError, Problem};
 pub use tables::{Additions, Table, table_of};

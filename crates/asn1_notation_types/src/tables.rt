@@ -59,14 +59,13 @@ fn located(files: &[Syntax], error: NotationError) -> NotationError
 {
     match files.get(error.file) {
         Some(file) => NotationError {
-            file: error.file,
             place: error.place.min(file.items.list.len()),
-            problem: error.problem,
+            ..error
         },
         None => NotationError {
             file: 0,
             place: 0,
-            problem: error.problem,
+            ..error
         },
     }
 }
@@ -81,15 +80,11 @@ fn built(
 ) -> Result<Table, NotationError> {
     let index = Index::new(alloc, files)?;
     let files = Files {
+        alloc,
         files,
         index: &index,
     };
-    let unknown = NotationError {
-        file: 0,
-        place: 0,
-        problem: Problem::UnknownType,
-    };
-    let symbol = files.find_type(module, name).ok_or(unknown)?;
+    let symbol = files.find_type(module, name)?;
     let at = type_of_symbol(files, symbol).map_err(|problem| symbol.scope.error(0, problem))?;
     let mut building = Building::new(alloc, files, additions)?;
     let place = building.place_of(at)?;
@@ -123,20 +118,12 @@ fn refused(
     error: TableError,
 ) -> NotationError {
     match error {
-        TableError::OutOfMemory => NotationError {
-            file: 0,
-            place: 0,
-            problem: Problem::OutOfMemory,
-        },
+        TableError::OutOfMemory => NotationError::new(Problem::OutOfMemory),
         TableError::Unlawful { place, flaw } => {
             let problem = Problem::Unlawful(flaw);
             match origins.get(place) {
                 Some(origin) => origin.error(alloc, files, problem),
-                None => NotationError {
-                    file: 0,
-                    place: 0,
-                    problem,
-                },
+                None => NotationError::new(problem),
             }
         }
     }

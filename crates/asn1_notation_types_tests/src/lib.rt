@@ -8,4 +8,6 @@ mod describing;
 #[cfg(test)]
 mod refused;
 #[cfg(test)]
+mod suggested;
+#[cfg(test)]
 mod tables;
