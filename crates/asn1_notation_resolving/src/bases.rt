@@ -1,11 +1,15 @@
 //! What a type is after its references and tags.
 use crate::errors::{NotationError, Problem};
+use crate::references::referenced;
 use crate::scopes::{Files, Scope, Symbol, TypeUse};
-use asn1_notation_tree::{AssignmentKind, ConstraintIndex, Reference, Tagging, TypeKind, TypeTerm};
+use asn1_notation_tree::{ConstraintIndex, Tagging, TypeKind, TypeTerm};
 use std::alloc::Global;
 
 /// How many references and tags are followed from a type to its kind.
 const MOST_STEPS: usize = 64;
+
+/// In how many levels actual parameters are followed.
+const MOST_LEVELS: u32 = 64;
 
 /// A constraint, and the module in which it is written.
 #[derive(Clone, Copy)]
@@ -38,43 +42,6 @@ impl Base<'_> {
     }
 }
 
-/// The type that a reference stands for.
-pub fn referenced(
-    files: Files<'_, '_>,
-    scope: Scope,
-    reference: &Reference,
-) -> Result<(Symbol, TypeUse), NotationError> {
-    let place = reference.name.place;
-    if !reference.parameters.is_empty() {
-        return Err(scope.error(place, Problem::Parameterised));
-    }
-    let module = reference.module.as_ref();
-    let symbol = files.find(scope, module, &reference.name, Problem::UnknownType)?;
-    let at = type_of_symbol(files, symbol).map_err(|problem| scope.error(place, problem))?;
-    Ok((symbol, at))
-}
-
-/// The type that an assignment defines.
-pub fn type_of_symbol(files: Files<'_, '_>, symbol: Symbol) -> Result<TypeUse, Problem> {
-    let Some(assignment) = files.assignment(symbol) else {
-        return Err(Problem::UnknownType);
-    };
-    if !assignment.parameters.is_empty() {
-        return Err(Problem::Parameterised);
-    }
-    match &assignment.kind {
-        AssignmentKind::Type(index) => Ok(TypeUse {
-            scope: symbol.scope,
-            index: *index,
-        }),
-        AssignmentKind::ValueSet(index, _) => Ok(TypeUse {
-            scope: symbol.scope,
-            index: *index,
-        }),
-        _ => Err(Problem::UnknownType),
-    }
-}
-
 /// Adds the constraints of a term, the last one first.
 fn add_constraints(
     all: &mut Vec<ConstraintUse>,
@@ -94,7 +61,7 @@ fn add_constraints(
 /// A type without its references and tags (X.680 14.1 and 31).
 pub fn base_of<'a>(
     alloc: Global,
-    files: Files<'a, '_>,
+    files: &mut Files<'a, '_>,
     start: TypeUse,
 ) -> Result<Base<'a>, NotationError> {
     let mut at = start;
@@ -114,9 +81,7 @@ pub fn base_of<'a>(
                 at.index = *inner;
             }
             TypeKind::Reference(reference) => {
-                let (found, next) = referenced(files, at.scope, reference)?;
-                symbol = Some(found);
-                at = next;
+                (symbol, at) = referenced(files, at.scope, reference, MOST_LEVELS)?;
             }
             _ => {
                 return Ok(Base {

@@ -25,9 +25,18 @@ pub enum Problem {
     /// The type is, or contains, more levels than are followed.
     #[error("nested too deep")]
     TooDeep,
-    /// A parameterised type (X.683).
-    #[error("parameterised types are not supported")]
+    /// A parameterised value (X.683).
+    #[error("parameterised values are not supported")]
     Parameterised,
+    /// Other actual parameters than those of the definition, or none of them (X.683 9.5).
+    #[error("the actual parameters are not those of the definition")]
+    Parameters,
+    /// A set, a class or an object as a parameter (X.683 9.5).
+    #[error("a set, a class or an object as a parameter is not supported")]
+    ParameterKind,
+    /// More parameterised types with their actual parameters than are followed.
+    #[error("there are more than 4096 parameterised types with other actual parameters")]
+    TooManyInstances,
     /// A type that tables do not hold.
     #[error("this type is not supported")]
     UnsupportedType,

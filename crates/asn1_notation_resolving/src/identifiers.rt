@@ -56,20 +56,18 @@ fn known_arc(before: &[u32], name: &str) -> Option<u32> {
 
 /// Arcs that grow.
 #[derive(Drop)]
-struct Arcs<'a, 'i> {
-    alloc: Global,
-    files: Files<'a, 'i>,
+struct Arcs<'a, 'i, 'f> {
+    files: &'f Files<'a, 'i>,
     arcs: Vec<u32>,
 }
 
 /// The arcs of an object identifier (X.680 32.3).
 pub fn arcs_of(
     alloc: Global,
-    files: Files<'_, '_>,
+    files: &Files<'_, '_>,
     value: ValueUse,
 ) -> Result<Vec<u32>, NotationError> {
     let mut arcs = Arcs {
-        alloc,
         files,
         arcs: Vec::new(alloc),
     };
@@ -77,7 +75,7 @@ pub fn arcs_of(
     Ok(arcs.arcs)
 }
 
-impl Arcs<'_, '_> {
+impl Arcs<'_, '_, '_> {
     /// Adds the arcs of an object identifier.
     #[cycle(arcs)]
     fn add_all(&mut self, value: ValueUse, levels: u32) -> Result<(), NotationError> {

@@ -39,7 +39,7 @@ impl Numbers<'_> {
 
 /// The number that is given for an item, if one is.
 fn given(
-    files: Files<'_, '_>,
+    files: &Files<'_, '_>,
     scope: Scope,
     item: &EnumerationItem,
 ) -> Result<Option<isize>, NotationError> {
@@ -56,7 +56,7 @@ fn given(
 /// The numbers that are given for items.
 fn all_given(
     alloc: Global,
-    files: Files<'_, '_>,
+    files: &Files<'_, '_>,
     scope: Scope,
     items: &[EnumerationItem],
 ) -> Result<Vec<Option<isize>>, NotationError> {
@@ -100,7 +100,7 @@ fn joined<'a>(
 /// All items with their numbers (X.680 20).
 pub fn numbers_of<'a>(
     alloc: Global,
-    files: Files<'_, '_>,
+    files: &Files<'_, '_>,
     scope: Scope,
     items: &'a Enumeration,
 ) -> Result<Numbers<'a>, NotationError> {

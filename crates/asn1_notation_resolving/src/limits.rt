@@ -21,7 +21,7 @@ fn problem_of(error: BoundsError) -> Problem {
 /// The value constraint of an INTEGER (X.691 10.3), if it has one.
 pub fn number_limits(
     alloc: Global,
-    files: Files<'_, '_>,
+    files: &mut Files<'_, '_>,
     base: &Base<'_>,
 ) -> Result<Option<NumberLimits>, NotationError> {
     let Some(visible) = visible(alloc, files, base, Aspect::Numbers)? else {
@@ -38,7 +38,11 @@ pub fn number_limits(
 }
 
 /// The sizes of a string or list (X.691 10.3).
-pub fn sizes(alloc: Global, files: Files<'_, '_>, base: &Base<'_>) -> Result<Sizes, NotationError> {
+pub fn sizes(
+    alloc: Global,
+    files: &mut Files<'_, '_>,
+    base: &Base<'_>,
+) -> Result<Sizes, NotationError> {
     let Some(visible) = visible(alloc, files, base, Aspect::Sizes)? else {
         return Ok(Sizes {
             root: Bounded::None,
@@ -74,7 +78,7 @@ fn characters_of(kind: StringKind) -> Option<&'static [(u32, u32)]> {
 /// characters of the kind.
 pub fn alphabet(
     alloc: Global,
-    files: Files<'_, '_>,
+    files: &mut Files<'_, '_>,
     base: &Base<'_>,
     kind: StringKind,
 ) -> Result<Option<CharacterTable>, NotationError> {

@@ -1,5 +1,6 @@
 //! Numbers and items, by themselves or by name.
 use crate::errors::{NotationError, Problem};
+use crate::instances::{Given, given_for};
 use crate::items::Numbers;
 use crate::scopes::{Files, Scope, Symbol};
 use asn1_notation_tree::{AssignmentKind, Name, NamedNumber, Reference, ValueIndex, ValueKind};
@@ -8,7 +9,7 @@ use asn1_notation_tree::{AssignmentKind, Name, NamedNumber, Reference, ValueInde
 const MOST_STEPS: usize = 64;
 
 /// A value, and the module in which it is written.
-#[derive(Clone, Copy)]
+#[derive(Clone, Copy, PartialEq, Eq, PartialOrd, Ord)]
 pub struct ValueUse {
     pub scope: Scope,
     pub index: ValueIndex,
@@ -16,7 +17,7 @@ pub struct ValueUse {
 
 impl ValueUse {
     /// An error at the value.
-    pub fn error(self, files: Files<'_, '_>, problem: Problem) -> NotationError {
+    pub fn error(self, files: &Files<'_, '_>, problem: Problem) -> NotationError {
         let place = match files.value_term(self.scope, self.index) {
             Ok(term) => term.place,
             Err(_) => 0,
@@ -35,20 +36,25 @@ pub fn named<'a>(numbers: &'a [NamedNumber], name: &str) -> Option<&'a NamedNumb
     None
 }
 
-/// The value that a name stands for (X.680 17.5), after the name of its module if that is given.
+/// The value that a name stands for (X.680 17.5, X.683 8.4), after the name of its module if that is given.
 pub fn referenced(
-    files: Files<'_, '_>,
+    files: &Files<'_, '_>,
     scope: Scope,
     module: Option<&Name>,
     name: &Name,
 ) -> Result<ValueUse, NotationError> {
+    match given_for(files, scope, module, name) {
+        Some(Given::Value(at)) => return Ok(at),
+        Some(Given::Type(_)) => return Err(scope.error(name.place, Problem::UnknownValue)),
+        None => {}
+    }
     let symbol = files.find(scope, module, name, Problem::UnknownValue)?;
-    value_of_symbol(files, symbol).ok_or(scope.error(name.place, Problem::UnknownValue))
+    value_of_symbol(files, symbol).map_err(|problem| scope.error(name.place, problem))
 }
 
 /// The value that a reference stands for (X.680 17.5).
 fn next_of(
-    files: Files<'_, '_>,
+    files: &Files<'_, '_>,
     scope: Scope,
     reference: &Reference,
 ) -> Result<ValueUse, NotationError> {
@@ -59,18 +65,24 @@ fn next_of(
 }
 
 /// The value that an assignment defines.
-fn value_of_symbol(files: Files<'_, '_>, symbol: Symbol) -> Option<ValueUse> {
-    match &files.assignment(symbol)?.kind {
-        AssignmentKind::Value(_, index) => Some(ValueUse {
+fn value_of_symbol(files: &Files<'_, '_>, symbol: Symbol) -> Result<ValueUse, Problem> {
+    let Some(assignment) = files.assignment(symbol) else {
+        return Err(Problem::UnknownValue);
+    };
+    match &assignment.kind {
+        AssignmentKind::Value(..) if !assignment.parameters.is_empty() => {
+            Err(Problem::Parameterised)
+        }
+        AssignmentKind::Value(_, index) => Ok(ValueUse {
             scope: symbol.scope,
             index: *index,
         }),
-        _ => None,
+        _ => Err(Problem::UnknownValue),
     }
 }
 
 /// A value after its references (X.680 17.5).
-pub fn settled(files: Files<'_, '_>, start: ValueUse) -> Result<ValueUse, NotationError> {
+pub fn settled(files: &Files<'_, '_>, start: ValueUse) -> Result<ValueUse, NotationError> {
     let mut at = start;
     for _ in 0..MOST_STEPS {
         match &files.value_term(at.scope, at.index)?.kind {
@@ -82,7 +94,7 @@ pub fn settled(files: Files<'_, '_>, start: ValueUse) -> Result<ValueUse, Notati
 }
 
 /// A number, by itself or by the name of a value (X.680 19.9).
-pub fn number_of(files: Files<'_, '_>, start: ValueUse) -> Result<i128, NotationError> {
+pub fn number_of(files: &Files<'_, '_>, start: ValueUse) -> Result<i128, NotationError> {
     let at = settled(files, start)?;
     match files.value_term(at.scope, at.index)?.kind {
         ValueKind::Number(number) => Ok(number),
@@ -93,7 +105,7 @@ pub fn number_of(files: Files<'_, '_>, start: ValueUse) -> Result<i128, Notation
 /// A number of an INTEGER, by itself, by one of its own names, or by the name of a value (X.680 19.9 and 19.10). The
 /// names are those of a module.
 pub fn integer_of(
-    files: Files<'_, '_>,
+    files: &Files<'_, '_>,
     names: Scope,
     numbers: &[NamedNumber],
     value: ValueUse,
@@ -118,7 +130,7 @@ pub fn integer_of(
 
 /// The number of an item of an ENUMERATED, by its name or by that of a value (X.680 20.8).
 pub fn item_of(
-    files: Files<'_, '_>,
+    files: &Files<'_, '_>,
     items: &Numbers<'_>,
     value: ValueUse,
 ) -> Result<isize, NotationError> {

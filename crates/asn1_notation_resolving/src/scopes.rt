@@ -1,5 +1,6 @@
 //! Modules, and what their names stand for (X.680 13).
 use crate::errors::{NotationError, Problem};
+use crate::instances::{Instance, Key};
 use crate::suggestions::{
     unknown_first_module, unknown_first_type, unknown_module, unknown_symbol,
 };
@@ -8,21 +9,43 @@ use asn1_notation_tree::{
     ValueIndex, ValueTerm,
 };
 use std::alloc::{AllocError, Global};
+use std::collections::BTreeMap;
 
-/// A module: the index of its file, and its index in that file.
+/// A module: the index of its file, and its index in that file; and in a parameterised assignment, with which actual
+/// parameters.
 #[derive(Clone, Copy, Debug, PartialEq, Eq, PartialOrd, Ord)]
 pub struct Scope {
     pub file: usize,
     pub module: usize,
+    /// The index of the parameterised assignment with its actual parameters.
+    pub instance: Option<usize>,
 }
 
 /// Through how many modules a name is followed.
 const MOST_MODULES: usize = 64;
 
 /// The first module of the first file.
-const FIRST: Scope = Scope { file: 0, module: 0 };
+const FIRST: Scope = Scope {
+    file: 0,
+    module: 0,
+    instance: None,
+};
 
 impl Scope {
+    /// A module, outside parameterised assignments.
+    pub fn of(file: usize, module: usize) -> Self {
+        Scope {
+            file,
+            module,
+            instance: None,
+        }
+    }
+
+    /// The module, outside parameterised assignments.
+    fn outside(self) -> Self {
+        Scope::of(self.file, self.module)
+    }
+
     /// An error at a lexical item of the module's file.
     pub fn error(self, place: usize, problem: Problem) -> NotationError {
         NotationError {
@@ -35,14 +58,14 @@ impl Scope {
 }
 
 /// An assignment: its module, and its index there.
-#[derive(Clone, Copy)]
+#[derive(Clone, Copy, PartialEq, Eq, PartialOrd, Ord)]
 pub struct Symbol {
     pub scope: Scope,
     pub index: usize,
 }
 
 /// A type as it is written in a module.
-#[derive(Clone, Copy)]
+#[derive(Clone, Copy, PartialEq, Eq, PartialOrd, Ord)]
 pub struct TypeUse {
     pub scope: Scope,
     pub index: TypeIndex,
@@ -78,7 +101,7 @@ impl<'a> Index<'a> {
         for file in 0..files.len() {
             let modules = files[file].modules.as_slice();
             for module in 0..modules.len() {
-                all.add(Scope { file, module }, &modules[module])?;
+                all.add(Scope::of(file, module), &modules[module])?;
             }
         }
         all.modules.sort_by_key(|entry| (entry.name, entry.scope))?;
@@ -135,27 +158,41 @@ fn entry_in<'a>(entries: &[Entry<'a>], name: &str, scope: Scope) -> Option<Entry
     }
 }
 
-/// The files of a table, and their names.
-#[derive(Clone, Copy)]
+/// The files of a table, their names, and the parameterised assignments that are used.
+#[derive(Drop)]
 pub struct Files<'a, 'i> {
     pub alloc: Global,
     pub files: &'a [Syntax],
-    pub index: &'i Index<'a>,
+    index: &'i Index<'a>,
+    pub instances: Vec<Instance>,
+    /// The index of each, by what identifies it.
+    pub known_instances: BTreeMap<Vec<Key>, usize>,
 }
 
 impl<'a, 'i> Files<'a, 'i> {
+    /// Files and the index of their names.
+    pub fn new(alloc: Global, files: &'a [Syntax], index: &'i Index<'a>) -> Self {
+        Files {
+            alloc,
+            files,
+            index,
+            instances: Vec::new(alloc),
+            known_instances: BTreeMap::new(alloc),
+        }
+    }
+
     /// A module.
-    pub fn module(self, scope: Scope) -> Option<&'a Module> {
+    pub fn module(&self, scope: Scope) -> Option<&'a Module> {
         self.files.get(scope.file)?.modules.get(scope.module)
     }
 
     /// An assignment.
-    pub fn assignment(self, symbol: Symbol) -> Option<&'a Assignment> {
+    pub fn assignment(&self, symbol: Symbol) -> Option<&'a Assignment> {
         self.module(symbol.scope)?.assignments.get(symbol.index)
     }
 
     /// A type term.
-    pub fn type_term(self, at: TypeUse) -> Result<&'a TypeTerm, NotationError> {
+    pub fn type_term(&self, at: TypeUse) -> Result<&'a TypeTerm, NotationError> {
         let found = match self.files.get(at.scope.file) {
             Some(file) => file.types.get(at.index),
             None => None,
@@ -165,7 +202,7 @@ impl<'a, 'i> Files<'a, 'i> {
 
     /// A value term.
     pub fn value_term(
-        self,
+        &self,
         scope: Scope,
         index: ValueIndex,
     ) -> Result<&'a ValueTerm, NotationError> {
@@ -178,7 +215,7 @@ impl<'a, 'i> Files<'a, 'i> {
 
     /// A constraint term.
     pub fn constraint_term(
-        self,
+        &self,
         scope: Scope,
         index: ConstraintIndex,
     ) -> Result<&'a ConstraintTerm, NotationError> {
@@ -190,13 +227,14 @@ impl<'a, 'i> Files<'a, 'i> {
     }
 
     /// The first module with a name.
-    pub fn find_module(self, name: &str) -> Option<Scope> {
+    pub fn find_module(&self, name: &str) -> Option<Scope> {
         let entry = first_from(self.index.modules.as_slice(), name, FIRST)?;
         Some(entry.scope)
     }
 
     /// The assignment in a module that defines a name.
-    pub fn find_in(self, scope: Scope, name: &str) -> Option<Symbol> {
+    pub fn find_in(&self, scope: Scope, name: &str) -> Option<Symbol> {
+        let scope = scope.outside();
         let entry = entry_in(self.index.defined.as_slice(), name, scope)?;
         Some(Symbol {
             scope,
@@ -205,8 +243,8 @@ impl<'a, 'i> Files<'a, 'i> {
     }
 
     /// The import by which a module has a name, and the name there.
-    fn import_of(self, scope: Scope, name: &str) -> Option<(&'a Import, &'a Name)> {
-        let entry = entry_in(self.index.imported.as_slice(), name, scope)?;
+    fn import_of(&self, scope: Scope, name: &str) -> Option<(&'a Import, &'a Name)> {
+        let entry = entry_in(self.index.imported.as_slice(), name, scope.outside())?;
         let import = self.module(scope)?.imports.get(entry.index)?;
         for symbol in &import.symbols {
             if symbol.text.as_str() == name {
@@ -218,7 +256,7 @@ impl<'a, 'i> Files<'a, 'i> {
 
     /// What a name in a module stands for: an assignment of the module itself, or of one from which it imports the
     /// name, through at most 64 modules.
-    pub fn find_symbol(self, scope: Scope, name: &str) -> Option<Symbol> {
+    pub fn find_symbol(&self, scope: Scope, name: &str) -> Option<Symbol> {
         let mut scope = scope;
         for _ in 0..MOST_MODULES {
             if let Some(found) = self.find_in(scope, name) {
@@ -237,7 +275,7 @@ impl<'a, 'i> Files<'a, 'i> {
     /// `UnknownModule` at the name of a module that is not among the files, there or in an IMPORTS. The problem that is
     /// given, if nothing has the name: at it, or where it is imported.
     pub fn find(
-        self,
+        &self,
         scope: Scope,
         module: Option<&Name>,
         name: &Name,
@@ -260,7 +298,7 @@ impl<'a, 'i> Files<'a, 'i> {
     }
 
     /// Why a name in a module stands for nothing.
-    fn missed(self, scope: Scope, name: &Name, missing: Problem) -> NotationError {
+    fn missed(&self, scope: Scope, name: &Name, missing: Problem) -> NotationError {
         let text = name.text.as_str();
         let mut scope = scope;
         let mut searched = scope;
@@ -284,7 +322,7 @@ impl<'a, 'i> Files<'a, 'i> {
     /// # Errors
     ///
     /// `UnknownModule` or `UnknownType` at the first lexical item.
-    pub fn find_type(self, module: Option<&str>, name: &str) -> Result<Symbol, NotationError> {
+    pub fn find_type(&self, module: Option<&str>, name: &str) -> Result<Symbol, NotationError> {
         if let Some(module) = module {
             let Some(scope) = self.find_module(module) else {
                 return Err(unknown_first_module(self, module));

@@ -32,7 +32,7 @@ pub enum Aspect {
 /// Constraints of another aspect do not count.
 pub fn visible(
     alloc: Global,
-    files: Files<'_, '_>,
+    files: &mut Files<'_, '_>,
     base: &Base<'_>,
     aspect: Aspect,
 ) -> Result<Option<Visible>, NotationError> {
@@ -42,12 +42,11 @@ pub fn visible(
     };
     let mut terms = Terms {
         alloc,
-        files,
         scope: base.at.scope,
         numbers,
         terms: Vec::new(alloc),
     };
-    let roots = terms.add_all(base.constraints.as_slice(), aspect, MOST_LEVELS)?;
+    let roots = terms.add_all(files, base.constraints.as_slice(), aspect, MOST_LEVELS)?;
     let place = base.term.place;
     match effective(alloc, terms.terms.as_slice(), roots.as_slice()) {
         Ok(visible) if visible.is_visible => Ok(Some(visible)),
@@ -58,9 +57,8 @@ pub fn visible(
 
 /// The constraints of a type as a table of parts.
 #[derive(Drop)]
-struct Terms<'a, 'i> {
+struct Terms<'a> {
     alloc: Global,
-    files: Files<'a, 'i>,
     /// The module of the type.
     scope: Scope,
     /// The named numbers of the type.
@@ -68,7 +66,7 @@ struct Terms<'a, 'i> {
     terms: Vec<ConstraintTerm>,
 }
 
-impl Terms<'_, '_> {
+impl Terms<'_> {
     /// Adds a part, and returns its index.
     fn add(&mut self, term: ConstraintTerm) -> Result<usize, NotationError> {
         let index = self.terms.len();
@@ -80,6 +78,7 @@ impl Terms<'_, '_> {
     #[cycle(constraints)]
     fn add_all(
         &mut self,
+        files: &mut Files<'_, '_>,
         constraints: &[ConstraintUse],
         aspect: Aspect,
         levels: u32,
@@ -87,7 +86,13 @@ impl Terms<'_, '_> {
         let mut roots = Vec::new(self.alloc);
         for back in 0..constraints.len() {
             let constraint = constraints[constraints.len() - 1 - back];
-            let root = self.add_constraint(constraint.scope, constraint.index, aspect, levels)?;
+            let root = self.add_constraint(
+                files,
+                constraint.scope,
+                constraint.index,
+                aspect,
+                levels,
+            )?;
             if let Some(root) = root {
                 roots.push(root)?;
             }
@@ -99,35 +104,44 @@ impl Terms<'_, '_> {
     #[cycle(constraints)]
     fn add_constraint(
         &mut self,
+        files: &mut Files<'_, '_>,
         scope: Scope,
         index: ConstraintIndex,
         aspect: Aspect,
         levels: u32,
     ) -> Result<Option<usize>, NotationError> {
-        let term = self.files.constraint_term(scope, index)?;
+        let term = files.constraint_term(scope, index)?;
         if levels == 0 {
             return Err(scope.error(term.place, Problem::TooDeep));
         }
         let below = levels - 1;
         match &term.kind {
             ConstraintKind::Extensible(root, _) => {
-                self.add_extensible(scope, *root, aspect, below)
+                self.add_extensible(files, scope, *root, aspect, below)
             }
-            ConstraintKind::Single(value) => self.add_single(scope, *value, aspect),
-            ConstraintKind::Range(low, high) => self.add_range(scope, *low, *high, aspect),
+            ConstraintKind::Single(value) => self.add_single(files, scope, *value, aspect),
+            ConstraintKind::Range(low, high) => self.add_range(files, scope, *low, *high, aspect),
             ConstraintKind::Size(inner) if aspect == Aspect::Sizes => {
-                self.add_constraint(scope, *inner, Aspect::Numbers, below)
+                self.add_constraint(files, scope, *inner, Aspect::Numbers, below)
             }
             ConstraintKind::From(inner) if aspect == Aspect::Alphabet => {
-                self.add_constraint(scope, *inner, Aspect::Characters, below)
+                self.add_constraint(files, scope, *inner, Aspect::Characters, below)
             }
-            ConstraintKind::Contained(inner) => self.add_contained(scope, *inner, aspect, below),
-            ConstraintKind::Union(parts) => self.add_union(scope, parts.as_slice(), aspect, below),
+            ConstraintKind::Contained(inner) => self.add_contained(
+                files, scope, *inner, aspect, below,
+            ),
+            ConstraintKind::Union(parts) => self.add_union(
+                files,
+                scope,
+                parts.as_slice(),
+                aspect,
+                below,
+            ),
             ConstraintKind::Intersection(parts) => {
-                self.add_intersection(scope, parts.as_slice(), aspect, below)
+                self.add_intersection(files, scope, parts.as_slice(), aspect, below)
             }
             ConstraintKind::Except(first, _) => {
-                self.add_constraint(scope, *first, aspect, below)
+                self.add_constraint(files, scope, *first, aspect, below)
             }
             ConstraintKind::Size(_)
             | ConstraintKind::From(_)
@@ -140,12 +154,13 @@ impl Terms<'_, '_> {
     #[cycle(constraints)]
     fn add_extensible(
         &mut self,
+        files: &mut Files<'_, '_>,
         scope: Scope,
         root: ConstraintIndex,
         aspect: Aspect,
         levels: u32,
     ) -> Result<Option<usize>, NotationError> {
-        match self.add_constraint(scope, root, aspect, levels)? {
+        match self.add_constraint(files, scope, root, aspect, levels)? {
             None => Ok(None),
             Some(root) => {
                 let extensible = ConstraintTerm::Extensible {
@@ -161,13 +176,14 @@ impl Terms<'_, '_> {
     #[cycle(constraints)]
     fn add_contained(
         &mut self,
+        files: &mut Files<'_, '_>,
         scope: Scope,
         index: usize,
         aspect: Aspect,
         levels: u32,
     ) -> Result<Option<usize>, NotationError> {
-        let base = base_of(self.alloc, self.files, TypeUse { scope, index })?;
-        let roots = self.add_all(base.constraints.as_slice(), aspect, levels)?;
+        let base = base_of(self.alloc, files, TypeUse { scope, index })?;
+        let roots = self.add_all(files, base.constraints.as_slice(), aspect, levels)?;
         if roots.is_empty() {
             return Ok(None);
         }
@@ -178,6 +194,7 @@ impl Terms<'_, '_> {
     #[cycle(constraints)]
     fn add_union(
         &mut self,
+        files: &mut Files<'_, '_>,
         scope: Scope,
         parts: &[ConstraintIndex],
         aspect: Aspect,
@@ -185,7 +202,7 @@ impl Terms<'_, '_> {
     ) -> Result<Option<usize>, NotationError> {
         let mut all = Vec::new(self.alloc);
         for part in parts {
-            match self.add_constraint(scope, *part, aspect, levels)? {
+            match self.add_constraint(files, scope, *part, aspect, levels)? {
                 None => return Ok(None),
                 Some(part) => all.push(part)?,
             }
@@ -197,6 +214,7 @@ impl Terms<'_, '_> {
     #[cycle(constraints)]
     fn add_intersection(
         &mut self,
+        files: &mut Files<'_, '_>,
         scope: Scope,
         parts: &[ConstraintIndex],
         aspect: Aspect,
@@ -204,7 +222,7 @@ impl Terms<'_, '_> {
     ) -> Result<Option<usize>, NotationError> {
         let mut all = Vec::new(self.alloc);
         for part in parts {
-            if let Some(part) = self.add_constraint(scope, *part, aspect, levels)? {
+            if let Some(part) = self.add_constraint(files, scope, *part, aspect, levels)? {
                 all.push(part)?;
             }
         }
@@ -217,6 +235,7 @@ impl Terms<'_, '_> {
     /// Adds a single value: a number, or the characters of a string in FROM.
     fn add_single(
         &mut self,
+        files: &Files<'_, '_>,
         scope: Scope,
         index: ValueIndex,
         aspect: Aspect,
@@ -224,10 +243,10 @@ impl Terms<'_, '_> {
         let value = ValueUse { scope, index };
         match aspect {
             Aspect::Numbers => {
-                let number = self.number(value)?;
+                let number = self.number(files, value)?;
                 Ok(Some(self.add_interval(Some(number), Some(number))?))
             }
-            Aspect::Characters => Ok(Some(self.add_characters(value)?)),
+            Aspect::Characters => Ok(Some(self.add_characters(files, value)?)),
             Aspect::Sizes | Aspect::Alphabet => Ok(None),
         }
     }
@@ -244,6 +263,7 @@ impl Terms<'_, '_> {
     /// Adds a range of numbers or characters.
     fn add_range(
         &mut self,
+        files: &Files<'_, '_>,
         scope: Scope,
         low: RangeEnd,
         high: RangeEnd,
@@ -252,8 +272,8 @@ impl Terms<'_, '_> {
         match aspect {
             Aspect::Sizes | Aspect::Alphabet => Ok(None),
             Aspect::Numbers | Aspect::Characters => {
-                let low = self.end(scope, low, 1, aspect)?;
-                let high = self.end(scope, high, -1, aspect)?;
+                let low = self.end(files, scope, low, 1, aspect)?;
+                let high = self.end(files, scope, high, -1, aspect)?;
                 Ok(Some(self.add_interval(low, high)?))
             }
         }
@@ -262,6 +282,7 @@ impl Terms<'_, '_> {
     /// An end of a range, which is `inside` further in if it is open.
     fn end(
         &self,
+        files: &Files<'_, '_>,
         scope: Scope,
         end: RangeEnd,
         inside: i128,
@@ -272,50 +293,49 @@ impl Terms<'_, '_> {
         };
         let value = ValueUse { scope, index };
         let number = match aspect {
-            Aspect::Characters => self.character(value)?,
-            _ => self.number(value)?,
+            Aspect::Characters => character_of(files, value)?,
+            _ => self.number(files, value)?,
         };
         if !end.is_open {
             return Ok(Some(number));
         }
         match number.checked_add(inside) {
             Some(next) => Ok(Some(next)),
-            None => Err(self.error(value, Problem::UnsupportedConstraint)),
+            None => Err(value.error(files, Problem::UnsupportedConstraint)),
         }
     }
 
     /// A number in a constraint.
-    fn number(&self, value: ValueUse) -> Result<i128, NotationError> {
-        integer_of(self.files, self.scope, self.numbers, value)
+    fn number(&self, files: &Files<'_, '_>, value: ValueUse) -> Result<i128, NotationError> {
+        integer_of(files, self.scope, self.numbers, value)
     }
 
     /// Adds the characters of a string in FROM.
-    fn add_characters(&mut self, value: ValueUse) -> Result<usize, NotationError> {
+    fn add_characters(
+        &mut self,
+        files: &Files<'_, '_>,
+        value: ValueUse,
+    ) -> Result<usize, NotationError> {
         let mut all = Vec::new(self.alloc);
-        for character in text_of(self.files, value)?.chars() {
+        for character in text_of(files, value)?.chars() {
             let number = Some(i128::from(u32::from(character)));
             all.push(self.add_interval(number, number)?)?;
         }
         self.add(ConstraintTerm::Union(all))
     }
+}
 
-    /// The single character of a string at an end of a range.
-    fn character(&self, value: ValueUse) -> Result<i128, NotationError> {
-        let mut characters = text_of(self.files, value)?.chars();
-        let (Some(character), None) = (characters.next(), characters.next()) else {
-            return Err(self.error(value, Problem::ValueOfOtherType));
-        };
-        Ok(i128::from(u32::from(character)))
-    }
-
-    /// An error at a value.
-    fn error(&self, value: ValueUse, problem: Problem) -> NotationError {
-        value.error(self.files, problem)
-    }
+/// The single character of a string at an end of a range.
+fn character_of(files: &Files<'_, '_>, value: ValueUse) -> Result<i128, NotationError> {
+    let mut characters = text_of(files, value)?.chars();
+    let (Some(character), None) = (characters.next(), characters.next()) else {
+        return Err(value.error(files, Problem::ValueOfOtherType));
+    };
+    Ok(i128::from(u32::from(character)))
 }
 
 /// The characters of a string.
-fn text_of<'a>(files: Files<'a, '_>, value: ValueUse) -> Result<&'a str, NotationError> {
+fn text_of<'a>(files: &Files<'a, '_>, value: ValueUse) -> Result<&'a str, NotationError> {
     let at = settled(files, value)?;
     let ValueKind::Text(octets) = &files.value_term(at.scope, at.index)?.kind else {
         return Err(value.error(files, Problem::ValueOfOtherType));

@@ -9,7 +9,7 @@ use std::alloc::Global;
 
 /// The tag that is written before a type (X.680 31.2).
 pub fn written_tag(
-    files: Files<'_, '_>,
+    files: &Files<'_, '_>,
     scope: Scope,
     tagging: &Tagging,
 ) -> Result<Tag, NotationError> {
@@ -85,7 +85,7 @@ fn unsupported_number(unsupported: &UnsupportedType) -> Option<u32> {
 }
 
 /// The outermost tag of a type, if it has one.
-pub fn own_tag(files: Files<'_, '_>, base: &Base<'_>) -> Result<Option<Tag>, NotationError> {
+pub fn own_tag(files: &Files<'_, '_>, base: &Base<'_>) -> Result<Option<Tag>, NotationError> {
     if let Some((scope, tagging)) = base.tag {
         return Ok(Some(written_tag(files, scope, tagging)?));
     }
@@ -94,14 +94,14 @@ pub fn own_tag(files: Files<'_, '_>, base: &Base<'_>) -> Result<Option<Tag>, Not
 }
 
 /// Whether a type is written with a tag of its own.
-pub fn is_written_tagged(files: Files<'_, '_>, at: TypeUse) -> Result<bool, NotationError> {
+pub fn is_written_tagged(files: &Files<'_, '_>, at: TypeUse) -> Result<bool, NotationError> {
     Ok(matches!(files.type_term(at)?.kind, TypeKind::Tagged(..)))
 }
 
 /// The base of a type, and its outermost tag, if it has one.
 pub fn tagged_base<'a>(
     alloc: Global,
-    files: Files<'a, '_>,
+    files: &mut Files<'a, '_>,
     at: TypeUse,
 ) -> Result<(Base<'a>, Option<Tag>), NotationError> {
     let base = base_of(alloc, files, at)?;

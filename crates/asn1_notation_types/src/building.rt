@@ -19,6 +19,7 @@ use asn1_table_types::{
 };
 use asn1_values_integers::Integer;
 use std::alloc::Global;
+use std::collections::BTreeMap;
 use std::mem;
 
 /// An index outside each table, where a type without values is.
@@ -38,7 +39,7 @@ impl Origin {
     pub(crate) fn error(
         self,
         alloc: Global,
-        files: Files<'_, '_>,
+        files: &mut Files<'_, '_>,
         problem: Problem,
     ) -> NotationError {
         match self {
@@ -55,13 +56,13 @@ impl Origin {
 #[derive(Drop)]
 pub(crate) struct Building<'a, 'i> {
     alloc: Global,
-    files: Files<'a, 'i>,
+    pub(crate) files: Files<'a, 'i>,
     additions: Additions,
     pub(crate) nodes: Vec<TypeNode>,
     pub(crate) names: Vec<TypeNames>,
     pub(crate) origins: Vec<Origin>,
-    /// The index of each type term, by files, if it has one.
-    places: Vec<Vec<Option<usize>>>,
+    /// The index of each type that has one.
+    places: BTreeMap<TypeUse, usize>,
 }
 
 impl<'a, 'i> Building<'a, 'i> {
@@ -70,45 +71,31 @@ impl<'a, 'i> Building<'a, 'i> {
         alloc: Global,
         files: Files<'a, 'i>,
         additions: Additions,
-    ) -> Result<Building<'a, 'i>, NotationError> {
-        let mut places = Vec::new(alloc);
-        for file in files.files {
-            let mut of_file = Vec::new(alloc);
-            of_file.resize(file.types.len(), None)?;
-            places.push(of_file)?;
-        }
-        Ok(Building {
+    ) -> Building<'a, 'i> {
+        Building {
             alloc,
             files,
             additions,
             nodes: Vec::new(alloc),
             names: Vec::new(alloc),
             origins: Vec::new(alloc),
-            places,
-        })
+            places: BTreeMap::new(alloc),
+        }
     }
 
     /// The index of a type, which is new if the type is met for the first time. A type that tables do not hold is
     /// outside the table.
     pub(crate) fn place_of(&mut self, at: TypeUse) -> Result<usize, NotationError> {
-        let base = base_of(self.alloc, self.files, at)?;
+        let base = base_of(self.alloc, &mut self.files, at)?;
         if matches!(base.term.kind, TypeKind::Unsupported(_)) {
             return Ok(NO_TYPE);
         }
         let key = if base.outer == 0 { base.at } else { at };
-        let known = match self.places.get(key.scope.file) {
-            Some(places) => places.get(key.index).copied().flatten(),
-            None => None,
-        };
-        if let Some(place) = known {
-            return Ok(place);
+        if let Some(place) = self.places.get(&key) {
+            return Ok(*place);
         }
         let place = self.add(TypeNode::Null, self.names_of(&base)?, Origin::Type(at))?;
-        if let Some(places) = self.places.get_mut(key.scope.file) {
-            if let Some(known) = places.get_mut(key.index) {
-                *known = Some(place);
-            }
-        }
+        self.places.insert(key, place)?;
         Ok(place)
     }
 
@@ -142,7 +129,7 @@ impl<'a, 'i> Building<'a, 'i> {
         let Some(Origin::Type(at)) = self.origins.get(place).copied() else {
             return Ok(());
         };
-        let base = base_of(self.alloc, self.files, at)?;
+        let base = base_of(self.alloc, &mut self.files, at)?;
         let mut names = self.names_of(&base)?;
         let node = self.node_of(&base, &mut names)?;
         if let (Some(known), Some(known_names)) = (
@@ -192,8 +179,8 @@ impl<'a, 'i> Building<'a, 'i> {
     }
 
     /// The sizes of a type.
-    fn sizes(&self, base: &Base<'_>) -> Result<Sizes, NotationError> {
-        sizes(self.alloc, self.files, base)
+    fn sizes(&mut self, base: &Base<'_>) -> Result<Sizes, NotationError> {
+        sizes(self.alloc, &mut self.files, base)
     }
 
     /// The names of numbers.
@@ -206,7 +193,7 @@ impl<'a, 'i> Building<'a, 'i> {
         let scope = base.at.scope;
         for number in numbers {
             let index = number.number;
-            let value = number_of(self.files, ValueUse { scope, index })?;
+            let value = number_of(&self.files, ValueUse { scope, index })?;
             names.numbers.push(NumberName {
                 name: String::from_str(self.alloc, number.name.text.as_str())?,
                 number: Integer::from_i128(value),
@@ -223,7 +210,7 @@ impl<'a, 'i> Building<'a, 'i> {
         names: &mut TypeNames,
     ) -> Result<TypeNode, NotationError> {
         self.number_names(base, numbers, names)?;
-        let limits = number_limits(self.alloc, self.files, base)?;
+        let limits = number_limits(self.alloc, &mut self.files, base)?;
         Ok(TypeNode::Integer(limits))
     }
 
@@ -234,7 +221,7 @@ impl<'a, 'i> Building<'a, 'i> {
         items: &Enumeration,
         names: &mut TypeNames,
     ) -> Result<TypeNode, NotationError> {
-        let numbers = numbers_of(self.alloc, self.files, base.at.scope, items)?;
+        let numbers = numbers_of(self.alloc, &self.files, base.at.scope, items)?;
         let mut table = ItemTable {
             root: Vec::new(self.alloc),
             is_extensible: items.is_extensible,
@@ -273,7 +260,7 @@ impl<'a, 'i> Building<'a, 'i> {
 
     /// A restricted character string (X.680 41).
     fn character_string(
-        &self,
+        &mut self,
         base: &Base<'_>,
         name: StringName,
     ) -> Result<TypeNode, NotationError> {
@@ -294,7 +281,7 @@ impl<'a, 'i> Building<'a, 'i> {
         Ok(TypeNode::CharacterString(StringTable {
             kind,
             sizes: self.sizes(base)?,
-            alphabet: alphabet(self.alloc, self.files, base, kind)?,
+            alphabet: alphabet(self.alloc, &mut self.files, base, kind)?,
         }))
     }
 
@@ -328,8 +315,8 @@ impl<'a, 'i> Building<'a, 'i> {
                     scope: part.at.scope,
                     index,
                 };
-                let base = base_of(self.alloc, self.files, part.at)?;
-                Presence::Default(default_of(self.alloc, self.files, &base, value)?)
+                let base = base_of(self.alloc, &mut self.files, part.at)?;
+                Presence::Default(default_of(self.alloc, &mut self.files, &base, value)?)
             }
         };
         Ok(Component {
@@ -353,7 +340,7 @@ impl<'a, 'i> Building<'a, 'i> {
         is_set: bool,
         names: &mut TypeNames,
     ) -> Result<ComponentTable, NotationError> {
-        let parts = parts_of(self.alloc, self.files, base.at.scope, components)?;
+        let parts = parts_of(self.alloc, &mut self.files, base.at.scope, components)?;
         let mut table = ComponentTable {
             root: Vec::new(self.alloc),
             is_extensible: parts.is_extensible,
@@ -366,7 +353,7 @@ impl<'a, 'i> Building<'a, 'i> {
                 } else {
                     position_tag(index)
                 };
-                let tags = tags_of_part(self.alloc, self.files, part, automatic)?;
+                let tags = tags_of_part(self.alloc, &mut self.files, part, automatic)?;
                 names.root.push(self.name_of(part)?)?;
                 table.root.push(self.component(part, tags, false)?)?;
             }
@@ -376,14 +363,14 @@ impl<'a, 'i> Building<'a, 'i> {
     }
 
     /// The indices of root components: as they are written, or for a SET in the order of their least tags.
-    fn root_order(&self, parts: &Parts<'a>, is_set: bool) -> Result<Vec<usize>, NotationError> {
+    fn root_order(&mut self, parts: &Parts<'a>, is_set: bool) -> Result<Vec<usize>, NotationError> {
         let mut least = Vec::new(self.alloc);
         let mut order = Vec::new(self.alloc);
         for index in 0..parts.root.len() {
             order.push(index)?;
             if is_set {
                 let part = parts.root[index];
-                let tags = tags_of_part(self.alloc, self.files, part, parts.root_tag(index))?;
+                let tags = tags_of_part(self.alloc, &mut self.files, part, parts.root_tag(index))?;
                 least.push(least_of(tags.as_slice()))?;
             }
         }
@@ -410,7 +397,7 @@ impl<'a, 'i> Building<'a, 'i> {
             } else {
                 position.and_then(position_tag)
             };
-            let tags = tags_of_part(self.alloc, self.files, part, automatic)?;
+            let tags = tags_of_part(self.alloc, &mut self.files, part, automatic)?;
             if part.group.is_none() {
                 names.additions.push(self.name_of(part)?)?;
                 additions.push(self.component(part, tags, true)?)?;
@@ -452,7 +439,7 @@ impl<'a, 'i> Building<'a, 'i> {
         components: &'a Components,
         names: &mut TypeNames,
     ) -> Result<TypeNode, NotationError> {
-        let alternatives = alternatives_of(self.alloc, self.files, base.at.scope, components)?;
+        let alternatives = alternatives_of(self.alloc, &mut self.files, base.at.scope, components)?;
         let root = alternatives.root.as_slice();
         let root = self.alternatives(root, &mut names.root)?;
         let additions = alternatives.additions.as_slice();

@@ -23,15 +23,17 @@ const MOST_BITS: usize = 65_536;
 #[derive(Clone, Copy)]
 struct Valued<'a, 'b, 'i> {
     alloc: Global,
-    files: Files<'a, 'i>,
+    files: &'b Files<'a, 'i>,
     base: &'b Base<'a>,
     value: ValueUse,
+    /// The size of a BIT STRING with named bits, if it is fixed.
+    size: Option<usize>,
 }
 
 /// The default of a component of a type.
 pub(crate) fn default_of<'a>(
     alloc: Global,
-    files: Files<'a, '_>,
+    files: &mut Files<'a, '_>,
     base: &Base<'a>,
     value: ValueUse,
 ) -> Result<DefaultValue, NotationError> {
@@ -56,7 +58,7 @@ pub(crate) fn default_of<'a>(
 /// The chosen alternative of a CHOICE and its value (X.680 29.11), which has no parts.
 fn chosen_of<'a>(
     alloc: Global,
-    files: Files<'a, '_>,
+    files: &mut Files<'a, '_>,
     base: &Base<'a>,
     components: &'a Components,
     value: ValueUse,
@@ -79,10 +81,10 @@ fn chosen_of<'a>(
 }
 
 /// The elements of a list (X.680 26.3 and 28.3), each without parts.
-fn elements_of(
+fn elements_of<'a>(
     alloc: Global,
-    files: Files<'_, '_>,
-    base: &Base<'_>,
+    files: &mut Files<'a, '_>,
+    base: &Base<'a>,
     element: &Element,
     value: ValueUse,
 ) -> Result<Vec<Event>, NotationError> {
@@ -115,17 +117,24 @@ pub(crate) fn fixed_size(sizes: &Sizes) -> Option<usize> {
 }
 
 /// A value without parts, of a type.
-fn event_of(
+fn event_of<'a>(
     alloc: Global,
-    files: Files<'_, '_>,
-    base: &Base<'_>,
+    files: &mut Files<'a, '_>,
+    base: &Base<'a>,
     value: ValueUse,
 ) -> Result<Event, NotationError> {
+    let size = match &base.term.kind {
+        TypeKind::BitString(names) if !names.is_empty() => {
+            fixed_size(&sizes(alloc, files, base)?)
+        }
+        _ => None,
+    };
     let valued = Valued {
         alloc,
         files,
         base,
         value,
+        size,
     };
     match &base.term.kind {
         TypeKind::Boolean => valued.truth(),
@@ -229,7 +238,7 @@ impl Valued<'_, '_, '_> {
 
     /// Adds zeros to bits, or removes them from their end, up to the fixed size of the type (X.680 22.7).
     fn fit(self, bits: &mut Vec<bool>) -> Result<(), NotationError> {
-        let Some(size) = fixed_size(&sizes(self.alloc, self.files, self.base)?) else {
+        let Some(size) = self.size else {
             return Err(self.base.error(Problem::NamedBits));
         };
         if size > MOST_BITS {

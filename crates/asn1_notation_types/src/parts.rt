@@ -51,20 +51,18 @@ impl Parts<'_> {
 
 /// A list of parts that grows.
 #[derive(Drop)]
-struct Gathering<'a, 'i> {
+struct Gathering<'a> {
     alloc: Global,
-    files: Files<'a, 'i>,
     parts: Vec<Part<'a>>,
     /// Whether each component that is written here has a tag of its own.
     are_tagged: Vec<bool>,
 }
 
-impl<'a, 'i> Gathering<'a, 'i> {
+impl<'a> Gathering<'a> {
     /// No parts.
-    fn new(alloc: Global, files: Files<'a, 'i>) -> Self {
+    fn new(alloc: Global) -> Self {
         Gathering {
             alloc,
-            files,
             parts: Vec::new(alloc),
             are_tagged: Vec::new(alloc),
         }
@@ -74,6 +72,7 @@ impl<'a, 'i> Gathering<'a, 'i> {
     #[cycle(components)]
     fn add(
         &mut self,
+        files: &mut Files<'a, '_>,
         scope: Scope,
         components: &'a [Component],
         group: Option<usize>,
@@ -87,7 +86,7 @@ impl<'a, 'i> Gathering<'a, 'i> {
                         index: *index,
                     };
                     if levels == MOST_LEVELS {
-                        self.are_tagged.push(is_written_tagged(self.files, at)?)?;
+                        self.are_tagged.push(is_written_tagged(files, at)?)?;
                     }
                     self.parts.push(Part {
                         name,
@@ -101,7 +100,7 @@ impl<'a, 'i> Gathering<'a, 'i> {
                         scope,
                         index: *index,
                     };
-                    self.add_components_of(at, group, levels)?;
+                    self.add_components_of(files, at, group, levels)?;
                 }
             }
         }
@@ -112,38 +111,46 @@ impl<'a, 'i> Gathering<'a, 'i> {
     #[cycle(components)]
     fn add_components_of(
         &mut self,
+        files: &mut Files<'a, '_>,
         at: TypeUse,
         group: Option<usize>,
         levels: u32,
     ) -> Result<(), NotationError> {
-        let place = self.files.type_term(at)?.place;
+        let place = files.type_term(at)?.place;
         if levels == 0 {
             return Err(at.scope.error(place, Problem::TooDeep));
         }
-        let base = base_of(self.alloc, self.files, at)?;
+        let base = base_of(self.alloc, files, at)?;
         let (TypeKind::Sequence(components) | TypeKind::Set(components)) = &base.term.kind else {
             return Err(at.scope.error(place, Problem::ComponentsOfOther));
         };
         let scope = base.at.scope;
         let below = levels - 1;
-        self.add(scope, components.root.as_slice(), group, below)?;
-        self.add(scope, components.second_root.as_slice(), group, below)
+        self.add(files, scope, components.root.as_slice(), group, below)?;
+        self.add(
+            files,
+            scope,
+            components.second_root.as_slice(),
+            group,
+            below,
+        )
     }
 
     /// Adds additions; each in version brackets has their index.
     fn add_additions(
         &mut self,
+        files: &mut Files<'a, '_>,
         scope: Scope,
         additions: &'a [Addition],
     ) -> Result<(), NotationError> {
         for index in 0..additions.len() {
             match &additions[index] {
                 Addition::Single(component) => {
-                    self.add(scope, slice::from_ref(component), None, MOST_LEVELS)?;
+                    self.add(files, scope, slice::from_ref(component), None, MOST_LEVELS)?;
                 }
                 Addition::Group(group) => {
                     let components = group.components.as_slice();
-                    self.add(scope, components, Some(index), MOST_LEVELS)?;
+                    self.add(files, scope, components, Some(index), MOST_LEVELS)?;
                 }
             }
         }
@@ -154,16 +161,22 @@ impl<'a, 'i> Gathering<'a, 'i> {
 /// The parts of a type that is written in a module.
 pub(crate) fn parts_of<'a>(
     alloc: Global,
-    files: Files<'a, '_>,
+    files: &mut Files<'a, '_>,
     scope: Scope,
     components: &'a Components,
 ) -> Result<Parts<'a>, NotationError> {
-    let mut first = Gathering::new(alloc, files);
-    first.add(scope, components.root.as_slice(), None, MOST_LEVELS)?;
-    let mut later = Gathering::new(alloc, files);
-    later.add(scope, components.second_root.as_slice(), None, MOST_LEVELS)?;
-    let mut added = Gathering::new(alloc, files);
-    added.add_additions(scope, components.additions.as_slice())?;
+    let mut first = Gathering::new(alloc);
+    first.add(files, scope, components.root.as_slice(), None, MOST_LEVELS)?;
+    let mut later = Gathering::new(alloc);
+    later.add(
+        files,
+        scope,
+        components.second_root.as_slice(),
+        None,
+        MOST_LEVELS,
+    )?;
+    let mut added = Gathering::new(alloc);
+    added.add_additions(files, scope, components.additions.as_slice())?;
     let mut are_tagged = first.are_tagged;
     are_tagged.extend_from_slice(later.are_tagged.as_slice())?;
     are_tagged.extend_from_slice(added.are_tagged.as_slice())?;
@@ -275,7 +288,7 @@ impl<'a> Alternatives<'a> {
 /// An alternative with its tag: an automatic one, or its own.
 fn tagged_alternative<'a>(
     alloc: Global,
-    files: Files<'a, '_>,
+    files: &mut Files<'a, '_>,
     part: Part<'a>,
     automatic: Option<Tag>,
 ) -> Result<TaggedPart<'a>, NotationError> {
@@ -296,7 +309,7 @@ fn tagged_alternative<'a>(
 /// The alternatives of a CHOICE that is written in a module.
 pub(crate) fn alternatives_of<'a>(
     alloc: Global,
-    files: Files<'a, '_>,
+    files: &mut Files<'a, '_>,
     scope: Scope,
     components: &'a Components,
 ) -> Result<Alternatives<'a>, NotationError> {
@@ -332,7 +345,7 @@ pub(crate) fn alternatives_of<'a>(
 /// CHOICE.
 pub(crate) fn tags_of_part(
     alloc: Global,
-    files: Files<'_, '_>,
+    files: &mut Files<'_, '_>,
     part: Part<'_>,
     automatic: Option<Tag>,
 ) -> Result<Vec<Tag>, NotationError> {

@@ -79,14 +79,10 @@ fn built(
     additions: Additions,
 ) -> Result<Table, NotationError> {
     let index = Index::new(alloc, files)?;
-    let files = Files {
-        alloc,
-        files,
-        index: &index,
-    };
+    let files = Files::new(alloc, files, &index);
     let symbol = files.find_type(module, name)?;
-    let at = type_of_symbol(files, symbol).map_err(|problem| symbol.scope.error(0, problem))?;
-    let mut building = Building::new(alloc, files, additions)?;
+    let at = type_of_symbol(&files, symbol).map_err(|problem| symbol.scope.error(0, problem))?;
+    let mut building = Building::new(alloc, files, additions);
     let place = building.place_of(at)?;
     for next in 0..usize::MAX {
         if next >= building.nodes.len() {
@@ -95,6 +91,7 @@ fn built(
         building.build(next)?;
     }
     let Building {
+        mut files,
         nodes,
         names,
         origins,
@@ -106,14 +103,14 @@ fn built(
             names: Names { types: names },
             place,
         }),
-        Err(error) => Err(refused(alloc, files, origins.as_slice(), error)),
+        Err(error) => Err(refused(alloc, &mut files, origins.as_slice(), error)),
     }
 }
 
 /// Why a table is refused, at the type that is not lawful.
 fn refused(
     alloc: Global,
-    files: Files<'_, '_>,
+    files: &mut Files<'_, '_>,
     origins: &[Origin],
     error: TableError,
 ) -> NotationError {

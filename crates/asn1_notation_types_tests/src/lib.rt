@@ -6,6 +6,8 @@ mod defaults;
 #[cfg(test)]
 mod describing;
 #[cfg(test)]
+mod parameters;
+#[cfg(test)]
 mod refused;
 #[cfg(test)]
 mod suggested;

@@ -8,14 +8,37 @@ use std::alloc::Global;
 const BEGIN: &str = "M DEFINITIONS ::= BEGIN ";
 
 /// Assignments, what is wrong, and the octet from there on.
-const ROWS: [(&str, Problem, usize); 22] = [
+const ROWS: [(&str, Problem, usize); 29] = [
     ("T ::= A", Problem::UnknownType, 6),
     ("T ::= INTEGER (0..v)", Problem::UnknownValue, 18),
     ("T ::= A A ::= T", Problem::Circular, 6),
+    ("T ::= A A {V} ::= V", Problem::Parameters, 6),
+    ("T ::= A {NULL, NULL} A {V} ::= V", Problem::Parameters, 6),
+    ("T ::= A {5} A {V} ::= V", Problem::Parameters, 6),
     (
-        "T ::= A {5} A {INTEGER: n} ::= INTEGER (0..n)",
+        "T ::= A {{1 | 2}} A {INTEGER: Set} ::= INTEGER (Set)",
+        Problem::ParameterKind,
+        9,
+    ),
+    (
+        "T ::= A {C} C ::= CLASS {&id INTEGER} A {D} ::= NULL",
+        Problem::ParameterKind,
+        9,
+    ),
+    (
+        "T ::= INTEGER (0..n {5}) n {INTEGER: m} INTEGER ::= m",
         Problem::Parameterised,
-        6,
+        18,
+    ),
+    (
+        "T ::= SEQUENCE OF A {NULL} A {V} ::= SEQUENCE OF A {SEQUENCE OF V}",
+        Problem::TooDeep,
+        49,
+    ),
+    (
+        "T ::= A {NULL} A {V} ::= SEQUENCE {a A {SEQUENCE OF V}, b A {SET OF V}}",
+        Problem::TooManyInstances,
+        58,
     ),
     ("T ::= BIT STRING {a(0)}", Problem::NamedBits, 6),
     (
