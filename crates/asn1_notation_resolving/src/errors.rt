@@ -1,5 +1,5 @@
 //! Why a text has no table.
-ghost use Rattle.std.specs.Prelude.{◌≡◌};
+ghost use Rattle.std.specs.Prelude.{◌≡◌, None};
 
 use asn1_notation_tree::Syntax;
 use asn1_table_types::Flaw;
@@ -121,7 +121,9 @@ pub struct NotationError {
 
 impl NotationError {
     /// An error at the first lexical item of the first file.
-    pub fn new(problem: Problem) -> Self {
+    pub fn new(problem: Problem) -> Self
+        ensures { result ≡ record { file = 0; place = 0; problem = problem; near = None } }
+    {
         NotationError {
             file: 0,
             place: 0,
@@ -131,7 +133,9 @@ impl NotationError {
     }
 
     /// The text of the error, with the name that may have been meant.
-    pub fn explained(self, files: &[Syntax]) -> Explained<'_> {
+    pub fn explained(self, files: &[Syntax]) -> Explained<'_>
+        ensures { result.problem ≡ self.problem }
+    {
         Explained {
             problem: self.problem,
             suggestion: match self.near {

@@ -1,4 +1,6 @@
 //! Modules, and what their names stand for (X.680 13).
+ghost use Rattle.std.specs.Prelude.{◌≡◌, None};
+
 use crate::errors::{NotationError, Problem};
 use crate::instances::{Instance, Key};
 use crate::suggestions::{
@@ -33,7 +35,9 @@ const FIRST: Scope = Scope {
 
 impl Scope {
     /// A module, outside parameterised assignments.
-    pub fn of(file: usize, module: usize) -> Self {
+    pub fn of(file: usize, module: usize) -> Self
+        ensures { result ≡ record { file = file; «module» = «module»; instance = None } }
+    {
         Scope {
             file,
             module,
@@ -47,7 +51,9 @@ impl Scope {
     }
 
     /// An error at a lexical item of the module's file.
-    pub fn error(self, place: usize, problem: Problem) -> NotationError {
+    pub fn error(self, place: usize, problem: Problem) -> NotationError
+        ensures { result ≡ record { file = self.file; place = place; problem = problem; near = None } }
+    {
         NotationError {
             file: self.file,
             place,

@@ -1,4 +1,7 @@
 //! Defaults (X.680 25.9).
+ghost use Rattle.std.specs.Prelude.{◌≡◌, false, IfSome};
+ghost use Rattle.asn1_schema_constraints.specs.declared.bounds.Bounded.TheVariants.{Single};
+
 use crate::parts::alternatives_of;
 use asn1_notation_resolving::{
     Base, Files, NotationError, Problem, TypeUse, ValueUse, arcs_of, base_of, integer_of, item_of,
@@ -109,7 +112,10 @@ fn elements_of<'a>(
 }
 
 /// The size, if it is fixed.
-pub(crate) fn fixed_size(sizes: &Sizes) -> Option<usize> {
+pub(crate) fn fixed_size(sizes: &Sizes) -> Option<usize>
+    ensures root { IfSome result (λ size. sizes.now.root ≡ Single size) }
+    ensures closed { IfSome result (λ _. sizes.now.is_extensible ≡ false) }
+{
     match sizes.root {
         Bounded::Single(size) if !sizes.is_extensible => Some(size),
         _ => None,

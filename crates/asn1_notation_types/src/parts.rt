@@ -158,31 +158,24 @@ impl<'a> Gathering<'a> {
     }
 }
 
-/// The parts of a type that is written in a module.
-pub(crate) fn parts_of<'a>(
+/// The parts between the braces of a type that is written in a module, and whether each that is written there has a
+/// tag of its own.
+fn written_parts<'a>(
     alloc: Global,
     files: &mut Files<'a, '_>,
     scope: Scope,
     components: &'a Components,
-) -> Result<Parts<'a>, NotationError> {
+) -> Result<(Written<Part<'a>>, Vec<bool>), NotationError> {
     let mut first = Gathering::new(alloc);
     first.add(files, scope, components.root.as_slice(), None, MOST_LEVELS)?;
+    let second_root = components.second_root.as_slice();
     let mut later = Gathering::new(alloc);
-    later.add(
-        files,
-        scope,
-        components.second_root.as_slice(),
-        None,
-        MOST_LEVELS,
-    )?;
+    later.add(files, scope, second_root, None, MOST_LEVELS)?;
     let mut added = Gathering::new(alloc);
     added.add_additions(files, scope, components.additions.as_slice())?;
     let mut are_tagged = first.are_tagged;
     are_tagged.extend_from_slice(later.are_tagged.as_slice())?;
     are_tagged.extend_from_slice(added.are_tagged.as_slice())?;
-    let module = files.module(scope);
-    let environment = module.map_or(TagDefault::Explicit, |module| environment_of(module.tags));
-    let is_implied = module.map_or(false, |module| module.is_extensibility_implied);
     let extension = Extension {
         additions: added.parts,
         later: later.parts,
@@ -195,6 +188,20 @@ pub(crate) fn parts_of<'a>(
             None
         },
     };
+    Ok((written, are_tagged))
+}
+
+/// The parts of a type that is written in a module.
+pub(crate) fn parts_of<'a>(
+    alloc: Global,
+    files: &mut Files<'a, '_>,
+    scope: Scope,
+    components: &'a Components,
+) -> Result<Parts<'a>, NotationError> {
+    let (written, are_tagged) = written_parts(alloc, files, scope, components)?;
+    let module = files.module(scope);
+    let environment = module.map_or(TagDefault::Explicit, |module| environment_of(module.tags));
+    let is_implied = module.map_or(false, |module| module.is_extensibility_implied);
     let inserted = insert_extensions(alloc, written, is_implied)?;
     let automatic = if is_automatic(environment, are_tagged.as_slice()) {
         Some(tags_from_zero(alloc, scope, inserted.root.len(), inserted.additions.len())?)
