@@ -1,31 +1,18 @@
 //! Tables of the types of modules.
 use asn1_notation_printing::print_type;
 use asn1_notation_syntax::{Syntax, read_syntax};
+pub use asn1_notation_types::Table;
 use asn1_notation_types::{Additions, table_of};
-use asn1_table_names::Names;
-use asn1_table_types::Types;
 use std::alloc::Global;
-
-/// The types to which a type leads, their names, and the index of the type.
-#[derive(Drop)]
-pub struct Table {
-    pub types: Types,
-    pub names: Names,
-    pub place: usize,
-}
 
 /// The table of a type of some modules, with the type's name.
 fn table_in(alloc: Global, files: &[Syntax], name: &str, additions: Additions) -> Option<Table> {
-    let table = table_of(alloc, files, None, name, additions).ok()?;
-    let mut names = table.names;
-    if let Some(named) = names.types.get_mut(table.place) {
+    let mut table = table_of(alloc, files, None, name, additions).ok()?;
+    let place = table.place;
+    if let Some(named) = table.names.types.get_mut(place) {
         named.name = String::from_str(alloc, name).ok()?;
     }
-    Some(Table {
-        types: Types::new(alloc, table.nodes).ok()?,
-        names,
-        place: table.place,
-    })
+    Some(table)
 }
 
 /// The table of the type T of the modules of a text.
