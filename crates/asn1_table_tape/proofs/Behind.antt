@@ -146,12 +146,12 @@ count_by (suc n) any f g h es = go (behind_event (has_mark (More true)) es) (λ 
 
 pub counts_next : (ds es : List DefaultValue) (i n : ℕ) (any : List Event → Option (List Event)) (xs : List Event) (a : At ds i) →
     counts_on (values_of (map value_of (drop i ds))) (values_of (map value_of es)) n any xs
-    ≡ ((count_on n any (λ r. is_some (behind_nth ds i r)) xs == count (λ x. same (value_of a.value) x) (values_of (map value_of es)))
+    ≡ ((count (λ x. same (value_of a.value) x) (values_of (map value_of es)) == count_on n any (λ r. is_some (behind_nth ds i r)) xs)
     && counts_on (values_of (map value_of (drop (i + 1) ds))) (values_of (map value_of es)) n any xs)
 unfolding counts_on
 counts_next ds es i n any xs a =
     ap (λ us. counts_on (values_of (map value_of us)) (values_of (map value_of es)) n any xs) a.rest
-    ∙ ap (λ k. (k == count (λ x. same (value_of a.value) x) (values_of (map value_of es))) && counts_on (values_of (map value_of (drop (i + 1) ds))) (values_of (map value_of es)) n any xs)
+    ∙ ap (λ k. (count (λ x. same (value_of a.value) x) (values_of (map value_of es)) == k) && counts_on (values_of (map value_of (drop (i + 1) ds))) (values_of (map value_of es)) n any xs)
     (count_by n any (λ r. is_some (behind_value (value_of a.value) r)) (λ r. is_some (behind_nth ds i r)) (λ r. ap is_some (sym (a.nth r))) xs)
 
 pub counts_over : (ds : List DefaultValue) (ws : Values) (i n : ℕ) (any : List Event → Option (List Event)) (xs : List Event) → length ds ≤ i → counts_on (values_of (map value_of (drop i ds))) ws n any xs ≡ true
@@ -227,3 +227,7 @@ added_step (Some d) ps es o e = added_present (value_of d) ps es ∙ ap (λ x. o
 pub some_copied : {A : Type 0} (o : Option (Bor A)) → is_some (option_copied o) ≡ is_some o
 some_copied None = refl
 some_copied (Some x) = refl
+
+pub at_most_one : (b : Bool) → one_if b ≤ 1
+at_most_one true = omega arith
+at_most_one false = omega arith

@@ -105,7 +105,7 @@ unfoldable mutual
   pub counts_on : Values → Values → ℕ → (List Event → Option (List Event)) → List Event → Bool
   counts_on no_more ds n any es = true
   counts_on (member v vs) ds n any es =
-      (count_on n any (λ r. is_some (behind_value v r)) es == count (λ x. same v x) ds) && counts_on vs ds n any es
+      (count (λ x. same v x) ds == count_on n any (λ r. is_some (behind_value v r)) es) && counts_on vs ds n any es
 
   -- The records after these root components.
   pub behind_root : Fields → List Event → Option (List Event)

@@ -91,7 +91,7 @@ all_counted test (member u us) h =
 agreed : (vs ws : Values) → same_bag vs ws ≡ true → counts_agree vs vs ws ≡ true
 agreed vs ws e = all_true _ vs (λ v. eq-eqb _ _ (bag_counts vs ws e v))
 
-matched : (vs ws : Values) → same_bag vs ws ≡ true → are_among vs ws ≡ true
+pub matched : (vs ws : Values) → same_bag vs ws ≡ true → are_among vs ws ≡ true
 matched vs ws e = all_counted (λ w. is_among vs w) ws (λ w k. counted_among w vs (let a = bag_counts vs ws e w in omega (arith, a, k)))
 
 pub bag_is : (vs ws : Values) → counts_agree vs vs ws ≡ true → are_among vs ws ≡ same_bag vs ws

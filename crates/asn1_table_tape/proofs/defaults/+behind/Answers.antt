@@ -1,4 +1,4 @@
-use Rattle.std.proofs.Common.{◌≡◌, ◌∙◌, refl, sym, ap, ℕ, ◌+◌, ◌-◌, ◌<◌, ◌≤◌, map, drop, length, true, false, Bool, cond, ◌&&◌, is_some, List, Option, Some, None, Vec, Global, arith}
+use Rattle.std.proofs.Common.{◌≡◌, ◌∙◌, refl, sym, ap, ℕ, ◌+◌, ◌-◌, ◌<◌, map, drop, length, true, false, Bool, cond, ◌&&◌, is_some, List, Option, Some, None, Vec, Global, arith}
 use Rattle.std.specs.Prelude.{option_and_then, option_copied}
 use Rattle.std.specs.Option.{option_map_or, option_or}
 use Rattle.std.proofs.lemmas.Bool.{eq-eqb}
@@ -14,7 +14,7 @@ use Rattle.asn1_table_tape.specs.declared.tape.Event.{Event}
 use Rattle.asn1_table_tape.specs.declared.defaults.Mark.TheVariants.{Opens, More, Picks, Parts, Additions, Closes}
 use Rattle.asn1_table_tape.specs.Values.{has_mark, behind_added, behind_any, behind_bag, behind_each, behind_event, behind_members, behind_nth, behind_root, behind_value, count_on, counts_on, past}
 use Rattle.asn1_table_tape.proofs.Behind.{scalar_behind, sequence_behind, bag_behind, choice_behind, fields_behind, members_next, members_end, any_next, any_end, root_next, root_end, root_one, root_step}
-use Rattle.asn1_table_tape.proofs.Behind.{added_next, added_end, added_one, added_step, nth_here, nth_later, nth_over, counted, at_index, counts_next, counts_over, alike_at, each_step, each_end, count_step, count_end, some_copied}
+use Rattle.asn1_table_tape.proofs.Behind.{at_most_one, added_next, added_end, added_one, added_step, nth_here, nth_later, nth_over, counted, at_index, counts_next, counts_over, alike_at, each_step, each_end, count_step, count_end, some_copied}
 use Rattle.asn1_table_tape.proofs.defaults.+behind.Goals as goal
 use Rattle.asn1_table_tape.proofs.defaults.+behind.Goals.{behind_root-in-None, behind_root-in-Some, behind_added-in-None, behind_added-in-Some, count_on-then-is_some, count_on-else-is_some}
 
@@ -205,7 +205,7 @@ behind_bag-returns-then-count_on-count_alike t c =
     let q : counts_on vs vs (member_count vs) any es ≡ false =
     sym c.loop-index.invariant ∙ counts_next ds ds i (member_count vs) any es a
     ∙ ap (λ b. b && counts_on (values_of (map value_of (drop (i + 1) ds))) vs (member_count vs) any es)
-    (unequal_eqb _ _ (λ g. c.if-count_on-count_alike.true (sym e ∙ g ∙ sym f ∙ sym c.count_alike.ensures))) in
+    (unequal_eqb _ _ (λ g. c.if-count_on-count_alike.true (sym e ∙ sym g ∙ sym f ∙ sym c.count_alike.ensures))) in
     sym (ap (λ b. cond b (behind_each (member_count vs) any es) None) q)
 
 pub behind_bag-loop-index-preserved : goal.behind_bag-loop-index-preserved
@@ -220,7 +220,7 @@ behind_bag-loop-index-preserved t c =
     let f = alike_at ds i a in
     sym (counts_next ds ds i (member_count vs) any es a
     ∙ ap (λ b. b && counts_on (values_of (map value_of (drop (i + 1) ds))) vs (member_count vs) any es)
-    (eq-eqb _ _ (e ∙ c.if-count_on-count_alike.false ∙ c.count_alike.ensures ∙ f))) ∙ c.loop-index.invariant
+    (eq-eqb _ _ (sym (e ∙ c.if-count_on-count_alike.false ∙ c.count_alike.ensures ∙ f)))) ∙ c.loop-index.invariant
 
 pub behind_bag-returns : goal.behind_bag-returns
 behind_bag-returns t c =
@@ -233,10 +233,6 @@ behind_bag-returns t c =
 
 abbrev any_of : List DefaultValue → List Event → Option (List Event)
 any_of ds r = behind_any (values_of (map value_of ds)) r
-
-at_most_one : (b : Bool) → one_if b ≤ 1
-at_most_one true = omega arith
-at_most_one false = omega arith
 
 left_over : (n t : ℕ) → t < n → 0 < n - t
 left_over n t h = omega (arith, h)
