@@ -1,7 +1,5 @@
 //! What a type is after its references and tags.
-use crate::errors::{NotationError, Problem};
-use crate::references::referenced;
-use crate::scopes::{Files, Scope, Symbol, TypeUse};
+use asn1_notation_names::{Files, NotationError, Problem, Scope, Symbol, TypeUse, referenced};
 use asn1_notation_tree::{ConstraintIndex, Tagging, TypeKind, TypeTerm};
 use std::alloc::Global;
 

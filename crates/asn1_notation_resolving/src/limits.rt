@@ -1,10 +1,9 @@
 //! Value constraints, sizes and permitted alphabets, as tables have them.
 use crate::bases::Base;
-use crate::errors::{NotationError, Problem};
-use crate::scopes::Files;
 use crate::sets::{Aspect, visible};
 use asn1_notation_constraints::{BoundsError, size_limits};
 use asn1_notation_intervals::{Interval, NumberSet};
+use asn1_notation_names::{Files, NotationError, Problem};
 use asn1_schema_constraints::{Bounded, Sizes};
 use asn1_table_types::{CharacterTable, NumberLimits, StringKind};
 use std::alloc::Global;

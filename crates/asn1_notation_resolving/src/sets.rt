@@ -1,11 +1,11 @@
 //! Which numbers, sizes and characters the constraints of a type allow, as far as PER and OER see them (X.691 10.3,
 //! X.696 8.2).
 use crate::bases::{Base, ConstraintUse, base_of};
-use crate::errors::{NotationError, Problem};
-use crate::numbers::{ValueUse, integer_of, settled};
-use crate::scopes::{Files, Scope, TypeUse};
 use asn1_notation_constraints::{ConstraintTerm, Visible, effective};
 use asn1_notation_intervals::Interval;
+use asn1_notation_names::{
+    Files, NotationError, Problem, Scope, TypeUse, ValueUse, integer_of, settled,
+};
 use asn1_notation_tree::{
     ConstraintIndex, ConstraintKind, Limit, NamedNumber, RangeEnd, TypeKind, ValueIndex, ValueKind,
 };
