@@ -3,8 +3,8 @@ use crate::defaults::{default_of, fixed_size};
 use crate::parts::{Part, Parts, TaggedPart, alternatives_of, ordered, parts_of, tags_of_part};
 use crate::tables::Additions;
 use asn1_notation_resolving::{
-    Base, Files, NotationError, Numbered, Problem, Scope, TypeUse, ValueUse, alphabet, base_of,
-    number_limits, number_of, numbers_of, sizes,
+    Base, Files, NotationError, Numbered, Problem, Scope, Symbol, TypeUse, ValueUse, alphabet,
+    base_of, number_limits, number_of, numbers_of, sizes,
 };
 use asn1_notation_tree::{
     Components, Element, Enumeration, NamedNumber, Presence as WrittenPresence, StringName,
@@ -108,6 +108,17 @@ impl<'a, 'i> Building<'a, 'i> {
             }
         }
         Ok(names)
+    }
+
+    /// Names a type after its assignment.
+    pub(crate) fn set_name(&mut self, place: usize, symbol: Symbol) -> Result<(), NotationError> {
+        if let (Some(names), Some(assignment)) = (
+            self.names.get_mut(place),
+            self.files.assignment(symbol),
+        ) {
+            names.name = String::from_str(self.alloc, assignment.name.text.as_str())?;
+        }
+        Ok(())
     }
 
     /// Adds a type.

@@ -22,7 +22,7 @@ pub enum Additions {
 pub struct Table {
     /// The types, each of them lawful.
     pub types: Types,
-    /// Their names.
+    /// Their names. That of the type is that of its assignment, also if this is a reference to another type.
     pub names: Names,
     /// The index of the type.
     pub place: usize,
@@ -90,6 +90,7 @@ fn built(
         }
         building.build(next)?;
     }
+    building.set_name(place, symbol)?;
     let Building {
         mut files,
         nodes,
