@@ -20,8 +20,8 @@ const EXPLICIT: [&str; 13] = [
     "T ::= SET {b [2] BOOLEAN, a [APPLICATION 1] NULL, n INTEGER OPTIONAL, \
      c CHOICE {x [PRIVATE 4] NULL, y [6] BOOLEAN, ..., z [8] NULL}, ..., d [UNIVERSAL 9] OCTET STRING}",
     "T ::= CHOICE {leaf [0] NULL, more [1] T, flag BOOLEAN, ..., list [2] SEQUENCE OF T}",
-    "T ::= SEQUENCE {a A OPTIONAL, b B OPTIONAL} A ::= SEQUENCE {t T OPTIONAL, b B OPTIONAL} \
-     B ::= SEQUENCE {a A OPTIONAL, b B OPTIONAL}",
+    "T ::= SEQUENCE {a [0] A OPTIONAL, b [1] B OPTIONAL} A ::= SEQUENCE {t [0] T OPTIONAL, b [1] B OPTIONAL} \
+     B ::= SEQUENCE {a [0] A OPTIONAL, b [1] B OPTIONAL}",
     "T ::= SEQUENCE {r REAL OPTIONAL, c CHOICE {a [0] UTCTime, b [1] NULL}, \
      s SET {t GeneralizedTime OPTIONAL, u REAL OPTIONAL, n NULL}, l SEQUENCE OF REAL}",
     "T ::= SEQUENCE {a SEQUENCE {}, b SEQUENCE {...}, c SET {..., d NULL}}",
