@@ -1,7 +1,8 @@
 //! Constraints (X.680 49 and 50).
-use crate::elements::{read_contained, read_table, read_values, read_words, see_table, see_value};
+use crate::elements::{read_contained, read_table, read_values, read_words, see_table};
 use crate::inner::read_inner;
 use crate::parser::Parser;
+use crate::references::see_value;
 use crate::refusals::{Parsed, Refusal};
 use crate::values::skip_exception;
 use asn1_notation_tokens::{ItemKind, Symbol, Word};

@@ -17,6 +17,12 @@ pub fn read_qualifier(parser: &mut Parser<'_>, kind: ItemKind) -> Parsed<Option<
     Ok(Some(module))
 }
 
+/// Whether the next item, a name with a capital letter, is the module of a value.
+pub fn see_value(parser: &Parser<'_>) -> bool {
+    parser.peek_after(1) == ItemKind::Symbol(Symbol::Dot)
+        && parser.peek_after(2) == ItemKind::Identifier
+}
+
 /// The actual parameters at the next item, if there are any, as braces.
 pub fn skip_parameters(parser: &mut Parser<'_>) -> Parsed<Vec<ActualParameter>> {
     let mut parameters = Vec::new(parser.alloc);

@@ -1,10 +1,10 @@
 //! Types are printed, and the texts are read as the same types.
-use crate::common::{first_table, printed, table};
+use crate::common::{Table, first_table, printed, table};
 use crate::comparing::are_same;
 use std::alloc::{AllocError, Global};
 
 /// Assignments of modules with explicit tags.
-const EXPLICIT: [&str; 12] = [
+const EXPLICIT: [&str; 13] = [
     "T ::= SEQUENCE {a BOOLEAN, b NULL, c INTEGER, d OBJECT IDENTIFIER, e OCTET STRING, f BIT STRING, g UTF8String, \
      h BMPString, i GeneralString, j GraphicString, k TeletexString, l NumericString, m PrintableString, \
      n VisibleString, o IA5String}",
@@ -20,12 +20,13 @@ const EXPLICIT: [&str; 12] = [
     "T ::= SET {b [2] BOOLEAN, a [APPLICATION 1] NULL, n INTEGER OPTIONAL, \
      c CHOICE {x [PRIVATE 4] NULL, y [6] BOOLEAN, ..., z [8] NULL}, ..., d [UNIVERSAL 9] OCTET STRING}",
     "T ::= CHOICE {leaf [0] NULL, more [1] T, flag BOOLEAN, ..., list [2] SEQUENCE OF T}",
-    "T ::= SEQUENCE {a A OPTIONAL, b B OPTIONAL} A ::= SEQUENCE {t T OPTIONAL, b B OPTIONAL} \
-     B ::= SEQUENCE {a A OPTIONAL, b B OPTIONAL}",
+    "T ::= SEQUENCE {a [0] A OPTIONAL, b [1] B OPTIONAL} A ::= SEQUENCE {t [0] T OPTIONAL, b [1] B OPTIONAL} \
+     B ::= SEQUENCE {a [0] A OPTIONAL, b [1] B OPTIONAL}",
     "T ::= SEQUENCE {r REAL OPTIONAL, c CHOICE {a [0] UTCTime, b [1] NULL}, \
      s SET {t GeneralizedTime OPTIONAL, u REAL OPTIONAL, n NULL}, l SEQUENCE OF REAL}",
     "T ::= SEQUENCE {a SEQUENCE {}, b SEQUENCE {...}, c SET {..., d NULL}}",
     "T ::= SEQUENCE {a A, b A, c N.A, d N.A} A ::= BOOLEAN END N DEFINITIONS ::= BEGIN A ::= NULL",
+    "T ::= A A ::= SEQUENCE {a A OPTIONAL, b B} B ::= BOOLEAN",
     "T ::= REAL",
 ];
 
@@ -40,10 +41,28 @@ const AUTOMATIC: [&str; 3] = [
     "T ::= CHOICE {a CHOICE {b NULL, c SET {d BOOLEAN, e NULL}}, ..., [[f NULL, g T]]}",
 ];
 
-/// Whether the type T of a text, printed and read again, is the same, and so is its text.
+/// What a printed type begins with.
+const BEGIN: &str = "Printed DEFINITIONS ::= BEGIN\n\n";
+
+/// Whether a printed type begins with the name of the type T; one outside the table has none.
+fn begins_right(table: &Table, written: &str) -> bool {
+    let name = match table.types.node(table.place) {
+        Some(_) => "T ::= ",
+        None => "Type ::= REAL ",
+    };
+    match written.strip_prefix(BEGIN) {
+        Some(rest) => rest.starts_with(name),
+        None => false,
+    }
+}
+
+/// Whether the type T of a text, printed and read again, is the same, and so is its text, which begins with its name.
 fn is_same(alloc: Global, text: &str) -> Option<bool> {
     let before = table(alloc, text)?;
     let written = printed(alloc, &before)?;
+    if !begins_right(&before, written.as_str()) {
+        return Some(false);
+    }
     let after = first_table(alloc, written.as_str())?;
     let again = printed(alloc, &after)?;
     if written.as_str() != again.as_str() {

@@ -57,8 +57,9 @@ END
 ",
     ),
     (
-        "M DEFINITIONS ::= BEGIN T ::= SEQUENCE {a BIT STRING DEFAULT '101'B, b OCTET STRING DEFAULT 'AB'H, \
-         c UTF8String DEFAULT \"\"\"\", d SEQUENCE OF ENUMERATED {p, q} DEFAULT {q, p}, e SEQUENCE {...}} END",
+        "M DEFINITIONS AUTOMATIC TAGS ::= BEGIN T ::= SEQUENCE {a BIT STRING DEFAULT '101'B, \
+         b OCTET STRING DEFAULT 'AB'H, c UTF8String DEFAULT \"\"\"\", \
+         d SEQUENCE OF ENUMERATED {p, q} DEFAULT {q, p}, e SEQUENCE {...}} END",
         "Printed DEFINITIONS ::= BEGIN
 
 T ::= SEQUENCE {

@@ -1,8 +1,6 @@
 //! What a type is after its references and tags.
-use crate::errors::{NotationError, Problem};
-use crate::references::referenced;
-use crate::scopes::{Files, Scope, Symbol, TypeUse};
-use asn1_notation_tree::{ConstraintIndex, Tagging, TypeKind, TypeTerm};
+use asn1_notation_names::{Files, NotationError, Problem, Scope, Symbol, TypeUse, referenced};
+use asn1_notation_tree::{ConstraintIndex, Tagging, TaggingMode, TypeKind, TypeTerm};
 use std::alloc::Global;
 
 /// How many references and tags are followed from a type to its kind.
@@ -58,7 +56,24 @@ fn add_constraints(
     Ok(())
 }
 
-/// A type without its references and tags (X.680 14.1 and 31).
+/// The error of a tag at an item before an untagged CHOICE, if it is IMPLICIT.
+fn implicit_error(scope: Scope, place: usize, tagging: &Tagging) -> Option<NotationError> {
+    match tagging.mode {
+        Some(TaggingMode::Implicit) => Some(scope.error(place, Problem::ImplicitChoice)),
+        _ => None,
+    }
+}
+
+/// Refuses a CHOICE after a tag with this error.
+fn check_implicit(kind: &TypeKind, error: Option<NotationError>) -> Result<(), NotationError> {
+    match (kind, error) {
+        (TypeKind::Choice(_), Some(error)) => Err(error),
+        _ => Ok(()),
+    }
+}
+
+/// A type without its references and tags (X.680 14.1 and 31). The last tag may not be IMPLICIT before a CHOICE
+/// (X.680 31.2.9).
 pub fn base_of<'a>(
     alloc: Global,
     files: &mut Files<'a, '_>,
@@ -67,6 +82,7 @@ pub fn base_of<'a>(
     let mut at = start;
     let mut symbol = None;
     let mut tag = None;
+    let mut implicit = None;
     let mut constraints = Vec::new(alloc);
     for _ in 0..MOST_STEPS {
         let term = files.type_term(at)?;
@@ -74,16 +90,16 @@ pub fn base_of<'a>(
         add_constraints(&mut constraints, at.scope, term)?;
         match &term.kind {
             TypeKind::Tagged(tagging, inner) => {
-                if tag.is_none() {
-                    tag = Some((at.scope, tagging));
-                }
+                tag = tag.or(Some((at.scope, tagging)));
+                implicit = implicit_error(at.scope, term.place, tagging);
                 symbol = None;
                 at.index = *inner;
             }
             TypeKind::Reference(reference) => {
                 (symbol, at) = referenced(files, at.scope, reference, MOST_LEVELS)?;
             }
-            _ => {
+            kind => {
+                check_implicit(kind, implicit)?;
                 return Ok(Base {
                     at,
                     term,

@@ -1,11 +1,11 @@
 //! Which numbers, sizes and characters the constraints of a type allow, as far as PER and OER see them (X.691 10.3,
 //! X.696 8.2).
 use crate::bases::{Base, ConstraintUse, base_of};
-use crate::errors::{NotationError, Problem};
-use crate::numbers::{ValueUse, integer_of, settled};
-use crate::scopes::{Files, Scope, TypeUse};
 use asn1_notation_constraints::{ConstraintTerm, Visible, effective};
-use asn1_notation_intervals::Interval;
+use asn1_notation_intervals::{Interval, NumberSet};
+use asn1_notation_names::{
+    Files, NotationError, Problem, Scope, TypeUse, ValueUse, integer_of, settled,
+};
 use asn1_notation_tree::{
     ConstraintIndex, ConstraintKind, Limit, NamedNumber, RangeEnd, TypeKind, ValueIndex, ValueKind,
 };
@@ -36,16 +36,7 @@ pub fn visible(
     base: &Base<'_>,
     aspect: Aspect,
 ) -> Result<Option<Visible>, NotationError> {
-    let numbers: &[NamedNumber] = match &base.term.kind {
-        TypeKind::Integer(numbers) => numbers.as_slice(),
-        _ => &[],
-    };
-    let mut terms = Terms {
-        alloc,
-        scope: base.at.scope,
-        numbers,
-        terms: Vec::new(alloc),
-    };
+    let mut terms = Terms::new(alloc, base);
     let roots = terms.add_all(files, base.constraints.as_slice(), aspect, MOST_LEVELS)?;
     let place = base.term.place;
     match effective(alloc, terms.terms.as_slice(), roots.as_slice()) {
@@ -53,6 +44,59 @@ pub fn visible(
         Ok(_) => Ok(None),
         Err(_) => Err(base.at.scope.error(place, Problem::OutOfMemory)),
     }
+}
+
+/// Refuses a constraint with a value that the type before it does not have (X.680 51.2 and 51.4), and one after which
+/// no value is left. The numbers, sizes or characters of the type without constraints are given. A type whose last
+/// constraint has an extension marker may have all of them.
+pub fn check_values(
+    alloc: Global,
+    files: &mut Files<'_, '_>,
+    base: &Base<'_>,
+    aspect: Aspect,
+    own: NumberSet,
+) -> Result<(), NotationError> {
+    let mut parent = own;
+    let mut is_extensible = false;
+    let count = base.constraints.len();
+    for back in 0..count {
+        let ConstraintUse { scope, index } = base.constraints[count - 1 - back];
+        let mut terms = Terms::new(alloc, base);
+        let Some(root) = terms.add_constraint(files, scope, index, aspect, MOST_LEVELS)? else {
+            continue;
+        };
+        if !is_extensible {
+            terms.check_written(files, aspect, &parent)?;
+        }
+        let place = files.constraint_term(scope, index)?.place;
+        let Ok(seen) = effective(alloc, terms.terms.as_slice(), &[root]) else {
+            return Err(scope.error(place, Problem::OutOfMemory));
+        };
+        parent = parent.intersection(alloc, &seen.numbers)?;
+        is_extensible = seen.is_extensible;
+        if parent.hull().is_none() {
+            return Err(scope.error(place, Problem::EmptyConstraint));
+        }
+    }
+    Ok(())
+}
+
+/// Whether a number is in a set.
+pub fn has_number(set: &NumberSet, number: i128) -> bool {
+    let one = Interval {
+        low: Some(number),
+        high: Some(number),
+    };
+    set.intervals()
+        .iter()
+        .any(|interval| interval.meet(one).has_number())
+}
+
+/// A number or character that is written in a constraint.
+#[derive(Clone, Copy)]
+struct Written {
+    number: i128,
+    value: ValueUse,
 }
 
 /// The constraints of a type as a table of parts.
@@ -64,9 +108,44 @@ struct Terms<'a> {
     /// The named numbers of the type.
     numbers: &'a [NamedNumber],
     terms: Vec<ConstraintTerm>,
+    /// The values in them, without those of contained types.
+    written: Vec<Written>,
 }
 
-impl Terms<'_> {
+impl<'a> Terms<'a> {
+    /// No parts.
+    fn new(alloc: Global, base: &Base<'a>) -> Self {
+        let numbers: &[NamedNumber] = match &base.term.kind {
+            TypeKind::Integer(numbers) => numbers.as_slice(),
+            _ => &[],
+        };
+        Terms {
+            alloc,
+            scope: base.at.scope,
+            numbers,
+            terms: Vec::new(alloc),
+            written: Vec::new(alloc),
+        }
+    }
+
+    /// Refuses a written value that a type does not have, by the numbers, sizes or characters that it has.
+    fn check_written(
+        &self,
+        files: &Files<'_, '_>,
+        aspect: Aspect,
+        parent: &NumberSet,
+    ) -> Result<(), NotationError> {
+        for written in &self.written {
+            if aspect == Aspect::Sizes && written.number > i128::from(u64::MAX) {
+                return Err(written.value.error(files, Problem::SizeOutOfRange));
+            }
+            if !has_number(parent, written.number) {
+                return Err(written.value.error(files, Problem::OutsideParent));
+            }
+        }
+        Ok(())
+    }
+
     /// Adds a part, and returns its index.
     fn add(&mut self, term: ConstraintTerm) -> Result<usize, NotationError> {
         let index = self.terms.len();
@@ -183,7 +262,9 @@ impl Terms<'_> {
         levels: u32,
     ) -> Result<Option<usize>, NotationError> {
         let base = base_of(self.alloc, files, TypeUse { scope, index })?;
+        let count = self.written.len();
         let roots = self.add_all(files, base.constraints.as_slice(), aspect, levels)?;
+        self.written.truncate(count);
         if roots.is_empty() {
             return Ok(None);
         }
@@ -244,6 +325,7 @@ impl Terms<'_> {
         match aspect {
             Aspect::Numbers => {
                 let number = self.number(files, value)?;
+                self.written.push(Written { number, value })?;
                 Ok(Some(self.add_interval(Some(number), Some(number))?))
             }
             Aspect::Characters => Ok(Some(self.add_characters(files, value)?)),
@@ -281,7 +363,7 @@ impl Terms<'_> {
 
     /// An end of a range, which is `inside` further in if it is open.
     fn end(
-        &self,
+        &mut self,
         files: &Files<'_, '_>,
         scope: Scope,
         end: RangeEnd,
@@ -297,6 +379,7 @@ impl Terms<'_> {
             _ => self.number(files, value)?,
         };
         if !end.is_open {
+            self.written.push(Written { number, value })?;
             return Ok(Some(number));
         }
         match number.checked_add(inside) {
@@ -318,8 +401,9 @@ impl Terms<'_> {
     ) -> Result<usize, NotationError> {
         let mut all = Vec::new(self.alloc);
         for character in text_of(files, value)?.chars() {
-            let number = Some(i128::from(u32::from(character)));
-            all.push(self.add_interval(number, number)?)?;
+            let number = i128::from(u32::from(character));
+            self.written.push(Written { number, value })?;
+            all.push(self.add_interval(Some(number), Some(number))?)?;
         }
         self.add(ConstraintTerm::Union(all))
     }

@@ -1,8 +1,6 @@
 //! The tags with which the types begin (X.680 8 and 31).
 use crate::bases::{Base, base_of};
-use crate::errors::{NotationError, Problem};
-use crate::numbers::{ValueUse, number_of};
-use crate::scopes::{Files, Scope, TypeUse};
+use asn1_notation_names::{Files, NotationError, Problem, Scope, TypeUse, ValueUse, number_of};
 use asn1_notation_tree::{StringName, TagClass, Tagging, TypeKind, UnsupportedType};
 use asn1_schema_tags::{Class, Tag};
 use std::alloc::Global;

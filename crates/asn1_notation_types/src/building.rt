@@ -1,10 +1,13 @@
 //! The nodes of a table (X.680 18 to 41).
 use crate::defaults::{default_of, fixed_size};
-use crate::parts::{Part, Parts, TaggedPart, alternatives_of, ordered, parts_of, tags_of_part};
 use crate::tables::Additions;
+use asn1_notation_components::{
+    Part, Parts, TaggedPart, alternatives_of, check_sequence, check_set, ordered, parts_of,
+    tags_of_part,
+};
 use asn1_notation_resolving::{
-    Base, Files, NotationError, Numbered, Problem, Scope, TypeUse, ValueUse, alphabet, base_of,
-    number_limits, number_of, numbers_of, sizes,
+    Base, Files, NameSet, NotationError, Numbered, Problem, Scope, Symbol, TypeUse, ValueUse,
+    alphabet, base_of, check_kinds, number_limits, number_of, numbers_of, sizes, tagged_base,
 };
 use asn1_notation_tree::{
     Components, Element, Enumeration, NamedNumber, Presence as WrittenPresence, StringName,
@@ -19,7 +22,7 @@ use asn1_table_types::{
 };
 use asn1_values_integers::Integer;
 use std::alloc::Global;
-use std::collections::BTreeMap;
+use std::collections::{BTreeMap, BTreeSet};
 use std::mem;
 
 /// An index outside each table, where a type without values is.
@@ -110,6 +113,17 @@ impl<'a, 'i> Building<'a, 'i> {
         Ok(names)
     }
 
+    /// Names a type after its assignment.
+    pub(crate) fn set_name(&mut self, place: usize, symbol: Symbol) -> Result<(), NotationError> {
+        if let (Some(names), Some(assignment)) = (
+            self.names.get_mut(place),
+            self.files.assignment(symbol),
+        ) {
+            names.name = String::from_str(self.alloc, assignment.name.text.as_str())?;
+        }
+        Ok(())
+    }
+
     /// Adds a type.
     fn add(
         &mut self,
@@ -124,12 +138,24 @@ impl<'a, 'i> Building<'a, 'i> {
         Ok(place)
     }
 
+    /// Builds all types, also those that are met meanwhile.
+    pub(crate) fn build_all(&mut self) -> Result<(), NotationError> {
+        for next in 0..usize::MAX {
+            if next >= self.nodes.len() {
+                break;
+            }
+            self.build(next)?;
+        }
+        Ok(())
+    }
+
     /// Builds the type at an index.
-    pub(crate) fn build(&mut self, place: usize) -> Result<(), NotationError> {
+    fn build(&mut self, place: usize) -> Result<(), NotationError> {
         let Some(Origin::Type(at)) = self.origins.get(place).copied() else {
             return Ok(());
         };
-        let base = base_of(self.alloc, &mut self.files, at)?;
+        let (base, _) = tagged_base(self.alloc, &mut self.files, at)?;
+        check_kinds(self.alloc, &self.files, &base)?;
         let mut names = self.names_of(&base)?;
         let node = self.node_of(&base, &mut names)?;
         if let (Some(known), Some(known_names)) = (
@@ -183,7 +209,7 @@ impl<'a, 'i> Building<'a, 'i> {
         sizes(self.alloc, &mut self.files, base)
     }
 
-    /// The names of numbers.
+    /// The names of numbers, no two of which have one name or one number (X.680 19.4, 19.5 and 22.3).
     fn number_names(
         &self,
         base: &Base<'_>,
@@ -191,13 +217,34 @@ impl<'a, 'i> Building<'a, 'i> {
         names: &mut TypeNames,
     ) -> Result<(), NotationError> {
         let scope = base.at.scope;
+        let mut known = NameSet::new(self.alloc);
+        let mut values = BTreeSet::new(self.alloc);
         for number in numbers {
+            known.add(scope, number.name.place, &number.name)?;
             let index = number.number;
-            let value = number_of(&self.files, ValueUse { scope, index })?;
+            let written = ValueUse { scope, index };
+            let value = number_of(&self.files, written)?;
+            if !values.insert(value)? {
+                return Err(written.error(&self.files, Problem::NumberTwice));
+            }
             names.numbers.push(NumberName {
                 name: String::from_str(self.alloc, number.name.text.as_str())?,
                 number: Integer::from_i128(value),
             })?;
+        }
+        Ok(())
+    }
+
+    /// Refuses named bits with negative numbers (X.680 22.1).
+    fn check_bits(&self, base: &Base<'_>, bits: &[NamedNumber]) -> Result<(), NotationError> {
+        for bit in bits {
+            let value = ValueUse {
+                scope: base.at.scope,
+                index: bit.number,
+            };
+            if number_of(&self.files, value)? < 0 {
+                return Err(value.error(&self.files, Problem::NegativeBit));
+            }
         }
         Ok(())
     }
@@ -251,6 +298,7 @@ impl<'a, 'i> Building<'a, 'i> {
         names: &mut TypeNames,
     ) -> Result<TypeNode, NotationError> {
         self.number_names(base, bits, names)?;
+        self.check_bits(base, bits)?;
         let sizes = self.sizes(base)?;
         if !bits.is_empty() && fixed_size(&sizes).is_none() {
             return Err(base.error(Problem::NamedBits));
@@ -264,19 +312,8 @@ impl<'a, 'i> Building<'a, 'i> {
         base: &Base<'_>,
         name: StringName,
     ) -> Result<TypeNode, NotationError> {
-        let kind = match name {
-            StringName::Bmp => StringKind::Bmp,
-            StringName::General => StringKind::General,
-            StringName::Graphic => StringKind::Graphic,
-            StringName::Ia5 => StringKind::Ia5,
-            StringName::Numeric => StringKind::Numeric,
-            StringName::Printable => StringKind::Printable,
-            StringName::Teletex => StringKind::Teletex,
-            StringName::Utf8 => StringKind::Utf8,
-            StringName::Visible => StringKind::Visible,
-            StringName::Universal | StringName::Videotex => {
-                return Err(base.error(Problem::UnsupportedType));
-            }
+        let Some(kind) = string_kind(name) else {
+            return Err(base.error(Problem::UnsupportedType));
         };
         Ok(TypeNode::CharacterString(StringTable {
             kind,
@@ -340,7 +377,18 @@ impl<'a, 'i> Building<'a, 'i> {
         is_set: bool,
         names: &mut TypeNames,
     ) -> Result<ComponentTable, NotationError> {
-        let parts = parts_of(self.alloc, &mut self.files, base.at.scope, components)?;
+        let parts = parts_of(
+            self.alloc,
+            &mut self.files,
+            base.at.scope,
+            components,
+            is_set,
+        )?;
+        if is_set {
+            check_set(self.alloc, &mut self.files, &parts)?;
+        } else {
+            check_sequence(self.alloc, &mut self.files, &parts)?;
+        }
         let mut table = ComponentTable {
             root: Vec::new(self.alloc),
             is_extensible: parts.is_extensible,
@@ -375,7 +423,12 @@ impl<'a, 'i> Building<'a, 'i> {
             }
         }
         if is_set {
-            return ordered(self.alloc, parts.root.as_slice(), least.as_slice());
+            return ordered(
+                self.alloc,
+                parts.scope,
+                parts.root.as_slice(),
+                least.as_slice(),
+            );
         }
         Ok(order)
     }
@@ -485,6 +538,22 @@ impl Grouped {
             names: TypeNames::new(alloc),
             components: Vec::new(alloc),
         }
+    }
+}
+
+/// The kind of a character string (X.680 41), if tables hold it.
+pub(crate) fn string_kind(name: StringName) -> Option<StringKind> {
+    match name {
+        StringName::Bmp => Some(StringKind::Bmp),
+        StringName::General => Some(StringKind::General),
+        StringName::Graphic => Some(StringKind::Graphic),
+        StringName::Ia5 => Some(StringKind::Ia5),
+        StringName::Numeric => Some(StringKind::Numeric),
+        StringName::Printable => Some(StringKind::Printable),
+        StringName::Teletex => Some(StringKind::Teletex),
+        StringName::Utf8 => Some(StringKind::Utf8),
+        StringName::Visible => Some(StringKind::Visible),
+        StringName::Universal | StringName::Videotex => None,
     }
 }
 

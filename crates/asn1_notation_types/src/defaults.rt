@@ -2,16 +2,17 @@
 ghost use Rattle.std.specs.Prelude.{◌≡◌, false, IfSome};
 ghost use Rattle.asn1_schema_constraints.specs.declared.bounds.Bounded.TheVariants.{Single};
 
-use crate::parts::alternatives_of;
+use crate::building::string_kind;
+use asn1_notation_components::alternatives_of;
 use asn1_notation_resolving::{
     Base, Files, NotationError, Problem, TypeUse, ValueUse, arcs_of, base_of, integer_of, item_of,
-    numbers_of, settled, sizes,
+    number_limits, numbers_of, permits, settled, sizes,
 };
 use asn1_notation_tree::{
     Components, Element, Enumeration, ListElement, NamedNumber, StringName, TypeKind, ValueKind,
 };
 use asn1_schema_constraints::{Bounded, Sizes};
-use asn1_table_types::{DefaultValue, Event};
+use asn1_table_types::{DefaultValue, Event, StringKind};
 use asn1_values_bit_strings::BitString;
 use asn1_values_identifiers::ObjectIdentifier;
 use asn1_values_integers::Integer;
@@ -102,17 +103,20 @@ fn elements_of<'a>(
         scope: base.at.scope,
         index: element.element,
     };
-    let base = base_of(alloc, files, of)?;
+    let element = base_of(alloc, files, of)?;
     let mut values = Vec::new(alloc);
     for one in elements {
         let one = ValueUse {
             scope: at.scope,
             index: one.value,
         };
-        let event = event_of(alloc, files, &base, one)?;
+        let event = event_of(alloc, files, &element, one)?;
         values.push(DefaultValue::Simple(event))?;
     }
-    Ok(values)
+    if has_size(alloc, files, base, values.len())? {
+        return Ok(values);
+    }
+    Err(value.error(files, Problem::DefaultOutside))
 }
 
 /// The size, if it is fixed.
@@ -126,8 +130,75 @@ pub(crate) fn fixed_size(sizes: &Sizes) -> Option<usize>
     }
 }
 
-/// A value without parts, of a type.
+/// A value without parts, of a type, which its constraints allow.
 fn event_of<'a>(
+    alloc: Global,
+    files: &mut Files<'a, '_>,
+    base: &Base<'a>,
+    value: ValueUse,
+) -> Result<Event, NotationError> {
+    let event = written_event(alloc, files, base, value)?;
+    if is_allowed(alloc, files, base, &event)? {
+        return Ok(event);
+    }
+    Err(value.error(files, Problem::DefaultOutside))
+}
+
+/// Whether the constraints of a type allow a value, as far as they count in all rules, and the permitted alphabet.
+fn is_allowed(
+    alloc: Global,
+    files: &mut Files<'_, '_>,
+    base: &Base<'_>,
+    event: &Event,
+) -> Result<bool, NotationError> {
+    match (event, &base.term.kind) {
+        (Event::Number(number), _) => match number_limits(alloc, files, base)? {
+            Some(limits) => Ok(limits.is_extensible || limits.root.in_bound(number)),
+            None => Ok(true),
+        },
+        (Event::Bits(bits), _) => has_size(alloc, files, base, bits.len()),
+        (Event::Octets(octets), _) => has_size(alloc, files, base, octets.len()),
+        (Event::Text(characters), TypeKind::CharacterString(name)) => match string_kind(*name) {
+            Some(kind) => {
+                let characters = characters.as_slice();
+                let are_permitted = permits(alloc, files, base, kind, characters)?;
+                Ok(are_permitted && has_length(alloc, files, base, kind, characters.len())?)
+            }
+            None => Ok(true),
+        },
+        _ => Ok(true),
+    }
+}
+
+/// Whether the constraints of a type allow a size (X.680 51.5).
+fn has_size(
+    alloc: Global,
+    files: &mut Files<'_, '_>,
+    base: &Base<'_>,
+    size: usize,
+) -> Result<bool, NotationError> {
+    let sizes = sizes(alloc, files, base)?;
+    Ok(sizes.is_extensible || sizes.root.contains(&size))
+}
+
+/// Whether the constraints of a string allow a number of characters; of octets any number.
+fn has_length(
+    alloc: Global,
+    files: &mut Files<'_, '_>,
+    base: &Base<'_>,
+    kind: StringKind,
+    length: usize,
+) -> Result<bool, NotationError> {
+    match kind {
+        StringKind::Utf8 | StringKind::General | StringKind::Graphic | StringKind::Teletex => {
+            Ok(true)
+        }
+        _ => has_size(alloc, files, base, length),
+    }
+}
+
+/// A value without parts, of a type.
+fn written_event<'a>(
     alloc: Global,
     files: &mut Files<'a, '_>,
     base: &Base<'a>,
@@ -148,7 +219,7 @@ fn event_of<'a>(
     };
     match &base.term.kind {
         TypeKind::Boolean => valued.truth(),
-        TypeKind::Null => Ok(Event::Nothing),
+        TypeKind::Null => valued.nothing(),
         TypeKind::Integer(numbers) => valued.number(numbers.as_slice()),
         TypeKind::Enumerated(items) => valued.item(items),
         TypeKind::BitString(names) => valued.bits(names.as_slice()),
@@ -170,6 +241,15 @@ impl Valued<'_, '_, '_> {
         let at = settled(self.files, self.value)?;
         match self.files.value_term(at.scope, at.index)?.kind {
             ValueKind::Boolean(value) => Ok(Event::Truth(value)),
+            _ => Err(self.error(Problem::ValueOfOtherType)),
+        }
+    }
+
+    /// The value of NULL (X.680 24.3).
+    fn nothing(self) -> Result<Event, NotationError> {
+        let at = settled(self.files, self.value)?;
+        match self.files.value_term(at.scope, at.index)?.kind {
+            ValueKind::Null => Ok(Event::Nothing),
             _ => Err(self.error(Problem::ValueOfOtherType)),
         }
     }

@@ -3,7 +3,7 @@
 
 mod building;
 mod defaults;
-mod parts;
+mod endless;
 mod tables;
 
 pub use asn1_notation_resolving::{Explained, Near, NotationError, Problem};

@@ -2,6 +2,7 @@
 ghost use Rattle.std.specs.Prelude.{◌<◌, ◌≤◌, IfErr, IfSome, length, slice_get};
 
 use crate::building::{Building, Origin};
+use crate::endless::endless_type;
 use asn1_notation_resolving::{Files, Index, NotationError, Problem, type_of_symbol};
 use asn1_notation_tree::Syntax;
 use asn1_table_names::Names;
@@ -22,7 +23,7 @@ pub enum Additions {
 pub struct Table {
     /// The types, each of them lawful.
     pub types: Types,
-    /// Their names.
+    /// Their names. That of the type is that of its assignment, also if this is a reference to another type.
     pub names: Names,
     /// The index of the type.
     pub place: usize,
@@ -79,17 +80,14 @@ fn built(
     additions: Additions,
 ) -> Result<Table, NotationError> {
     let index = Index::new(alloc, files)?;
+    index.check_names(files)?;
     let files = Files::new(alloc, files, &index);
     let symbol = files.find_type(module, name)?;
-    let at = type_of_symbol(&files, symbol).map_err(|problem| symbol.scope.error(0, problem))?;
+    let at = type_of_symbol(&files, symbol)?;
     let mut building = Building::new(alloc, files, additions);
     let place = building.place_of(at)?;
-    for next in 0..usize::MAX {
-        if next >= building.nodes.len() {
-            break;
-        }
-        building.build(next)?;
-    }
+    building.build_all()?;
+    building.set_name(place, symbol)?;
     let Building {
         mut files,
         nodes,
@@ -97,13 +95,32 @@ fn built(
         origins,
         ..
     } = building;
-    match Types::new(alloc, nodes) {
-        Ok(types) => Ok(Table {
-            types,
-            names: Names { types: names },
-            place,
-        }),
-        Err(error) => Err(refused(alloc, &mut files, origins.as_slice(), error)),
+    let types = match Types::new(alloc, nodes) {
+        Ok(types) => types,
+        Err(error) => return Err(refused(alloc, &mut files, origins.as_slice(), error)),
+    };
+    if let Some(endless) = endless_type(alloc, types.nodes())? {
+        let origins = origins.as_slice();
+        return Err(problem_at(alloc, &mut files, origins, endless, Problem::Endless));
+    }
+    Ok(Table {
+        types,
+        names: Names { types: names },
+        place,
+    })
+}
+
+/// A problem of the type at an index.
+fn problem_at(
+    alloc: Global,
+    files: &mut Files<'_, '_>,
+    origins: &[Origin],
+    place: usize,
+    problem: Problem,
+) -> NotationError {
+    match origins.get(place) {
+        Some(origin) => origin.error(alloc, files, problem),
+        None => NotationError::new(problem),
     }
 }
 
@@ -117,11 +134,7 @@ fn refused(
     match error {
         TableError::OutOfMemory => NotationError::new(Problem::OutOfMemory),
         TableError::Unlawful { place, flaw } => {
-            let problem = Problem::Unlawful(flaw);
-            match origins.get(place) {
-                Some(origin) => origin.error(alloc, files, problem),
-                None => NotationError::new(problem),
-            }
+            problem_at(alloc, files, origins, place, Problem::Unlawful(flaw))
         }
     }
 }

@@ -1,7 +1,6 @@
 //! Modules without a table for their type T: what is wrong, and where.
 use asn1_notation_syntax::{Syntax, read_syntax};
 use asn1_notation_types::{Additions, Problem, table_of};
-use asn1_table_types::Flaw;
 use std::alloc::Global;
 
 /// What is before the assignments.
@@ -66,29 +65,29 @@ const ROWS: [(&str, Problem, usize); 29] = [
         Problem::TagOutOfRange,
         14,
     ),
-    ("T ::= INTEGER (1..3 ^ 5..7)", Problem::EmptyConstraint, 6),
+    ("T ::= INTEGER (1..3 ^ 5..7)", Problem::EmptyConstraint, 15),
     (
         "T ::= OCTET STRING (SIZE (18446744073709551616))",
         Problem::SizeOutOfRange,
-        6,
+        26,
     ),
-    ("T ::= ENUMERATED {a(1), b(1)}", Problem::ItemNumber, 24),
+    ("T ::= ENUMERATED {a(1), b(1)}", Problem::NumberTwice, 24),
     ("T ::= SET {a NULL, b NULL}", Problem::TagTwice, 19),
     ("T ::= UniversalString", Problem::UnsupportedType, 6),
     (
         "T ::= SEQUENCE OF A A ::= CHOICE {a [0] NULL, ..., b [0] NULL}",
-        Problem::Unlawful(Flaw::TagTwice),
-        26,
+        Problem::TagTwice,
+        51,
     ),
     (
         "T ::= SEQUENCE {a NULL, b INTEGER (0..7) DEFAULT 8}",
-        Problem::Unlawful(Flaw::DefaultOfOtherType),
-        6,
+        Problem::DefaultOutside,
+        49,
     ),
     (
         "T ::= SEQUENCE {..., [[a NULL, b INTEGER (0..7) DEFAULT 8]]}",
-        Problem::Unlawful(Flaw::DefaultOfOtherType),
-        31,
+        Problem::DefaultOutside,
+        56,
     ),
     (
         "T ::= SEQUENCE {a CHOICE {b NULL} DEFAULT c : NULL}",

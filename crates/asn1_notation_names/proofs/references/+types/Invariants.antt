@@ -1,6 +1,6 @@
 -- The levels fall where an actual parameter has actual parameters.
 use Rattle.std.proofs.Common.{◌+◌, ◌*◌}
-use Rattle.asn1_notation_resolving.proofs.references.+types.Given as goal
+use Rattle.asn1_notation_names.proofs.references.+types.Given as goal
 
 abbrev pub decreases-referenced : goal.decreases-referenced
 decreases-referenced l = 4 * l.levels + 3

@@ -2,8 +2,10 @@
 use crate::errors::{NotationError, Problem};
 use crate::instances::{Given, given_for};
 use crate::items::Numbers;
-use crate::scopes::{Files, Scope, Symbol};
-use asn1_notation_tree::{AssignmentKind, Name, NamedNumber, Reference, ValueIndex, ValueKind};
+use crate::scopes::{Files, Scope, Symbol, TypeUse};
+use asn1_notation_tree::{
+    AssignmentKind, Name, NamedNumber, Reference, TypeKind, ValueIndex, ValueKind,
+};
 
 /// How many references are followed from a value to its notation.
 const MOST_STEPS: usize = 64;
@@ -49,7 +51,62 @@ pub fn referenced(
         None => {}
     }
     let symbol = files.find(scope, module, name, Problem::UnknownValue)?;
-    value_of_symbol(files, symbol).map_err(|problem| scope.error(name.place, problem))
+    let at = value_of_symbol(files, symbol).map_err(|problem| scope.error(name.place, problem))?;
+    check_governor(files, symbol, at)?;
+    Ok(at)
+}
+
+/// Refuses the value of an assignment whose type cannot have one in this notation (X.680 16.2).
+fn check_governor(
+    files: &Files<'_, '_>,
+    symbol: Symbol,
+    value: ValueUse,
+) -> Result<(), NotationError> {
+    let Some(assignment) = files.assignment(symbol) else {
+        return Ok(());
+    };
+    let AssignmentKind::Value(index, _) = &assignment.kind else {
+        return Ok(());
+    };
+    let governor = files.type_term(TypeUse {
+        scope: symbol.scope,
+        index: *index,
+    })?;
+    let term = files.value_term(value.scope, value.index)?;
+    if may_be(&governor.kind, &term.kind) {
+        return Ok(());
+    }
+    Err(value.scope.error(term.place, Problem::ValueOfOtherType))
+}
+
+/// Whether a value in this notation may be one of a type of a kind (X.680 17.7). A reference may be one of any kind.
+pub fn may_be(kind: &TypeKind, value: &ValueKind) -> bool {
+    match kind {
+        _ if matches!(value, ValueKind::Reference(_)) => true,
+        TypeKind::Boolean => matches!(value, ValueKind::Boolean(_)),
+        TypeKind::Null => matches!(value, ValueKind::Null),
+        TypeKind::Integer(_) => matches!(value, ValueKind::Number(_)),
+        TypeKind::Enumerated(_) => false,
+        TypeKind::BitString(_) => {
+            is_string_of_digits(value)
+                || matches!(value, ValueKind::List(_) | ValueKind::Containing(_))
+        }
+        TypeKind::OctetString => {
+            is_string_of_digits(value) || matches!(value, ValueKind::Containing(_))
+        }
+        TypeKind::CharacterString(_) => matches!(value, ValueKind::Text(_) | ValueKind::List(_)),
+        TypeKind::ObjectIdentifier | TypeKind::Sequence(_) | TypeKind::Set(_) => {
+            matches!(value, ValueKind::List(_) | ValueKind::Arcs(_))
+        }
+        TypeKind::SequenceOf(_) | TypeKind::SetOf(_) => matches!(value, ValueKind::List(_)),
+        TypeKind::Choice(_) => matches!(value, ValueKind::Choice(..)),
+        TypeKind::Tagged(..) | TypeKind::Reference(_) | TypeKind::Unsupported(_) => true,
+    }
+}
+
+/// Whether a value is a bstring or an hstring.
+fn is_string_of_digits(value: &ValueKind) -> bool {
+    matches!(value, ValueKind::Binary(_) | ValueKind::Hexadecimal(_))
 }
 
 /// The value that a reference stands for (X.680 17.5).

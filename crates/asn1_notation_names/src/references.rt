@@ -1,7 +1,7 @@
 //! What references to types stand for (X.680 14.1, X.683 9).
 use crate::errors::{NotationError, Problem};
 use crate::instances::{Given, Key, given_for, instance_with, value_key};
-use crate::numbers::ValueUse;
+use crate::numbers::{ValueUse, may_be};
 use crate::scopes::{Files, Scope, Symbol, TypeUse};
 use asn1_notation_tree::{
     ActualParameter, AssignmentKind, Parameter, Reference, TypeKind, ValueKind,
@@ -47,13 +47,19 @@ fn defined_type(files: &Files<'_, '_>, symbol: Symbol) -> Option<TypeUse> {
 }
 
 /// The type that an assignment without parameters defines.
-pub fn type_of_symbol(files: &Files<'_, '_>, symbol: Symbol) -> Result<TypeUse, Problem> {
-    match files.assignment(symbol) {
-        Some(assignment) if assignment.parameters.is_empty() => {}
-        Some(_) => return Err(Problem::Parameters),
-        None => return Err(Problem::UnknownType),
+///
+/// # Errors
+///
+/// `Parameters` at the name of one with parameters, `UnknownType` at that of one that defines no type.
+pub fn type_of_symbol(files: &Files<'_, '_>, symbol: Symbol) -> Result<TypeUse, NotationError> {
+    let Some(assignment) = files.assignment(symbol) else {
+        return Err(symbol.scope.error(0, Problem::UnknownType));
+    };
+    let place = assignment.name.place;
+    if !assignment.parameters.is_empty() {
+        return Err(symbol.scope.error(place, Problem::Parameters));
     }
-    defined_type(files, symbol).ok_or(Problem::UnknownType)
+    defined_type(files, symbol).ok_or(symbol.scope.error(place, Problem::UnknownType))
 }
 
 /// The instance of an assignment for a reference to it; none if it is not parameterised.
@@ -84,6 +90,7 @@ fn instance_of(
     keys.push(Key::Definition(symbol))?;
     for (parameter, actual) in parameters.iter().zip(&reference.parameters) {
         let one = given_by(files, scope, place, parameter, actual)?;
+        check_governor(files, symbol.scope, parameter, one)?;
         keys.push(key_of(files, one, levels - 1)?)?;
         given.push(one)?;
     }
@@ -147,6 +154,25 @@ fn given_by(
         }
         _ => Err(scope.error(place, Problem::Parameters)),
     }
+}
+
+/// Refuses a value that is given for a parameter and is of another type than its governor (X.683 9.6), which is written
+/// in a module.
+fn check_governor(
+    files: &Files<'_, '_>,
+    scope: Scope,
+    parameter: &Parameter,
+    given: Given,
+) -> Result<(), NotationError> {
+    let (Given::Value(value), Some(index)) = (given, parameter.governor) else {
+        return Ok(());
+    };
+    let governor = files.type_term(TypeUse { scope, index })?;
+    let term = files.value_term(value.scope, value.index)?;
+    if may_be(&governor.kind, &term.kind) {
+        return Ok(());
+    }
+    Err(value.error(files, Problem::ValueOfOtherType))
 }
 
 /// A type that is given for a parameter. It may not be a class.

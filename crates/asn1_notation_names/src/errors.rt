@@ -19,6 +19,12 @@ pub enum Problem {
     /// No module has this name.
     #[error("no such module among the files")]
     UnknownModule,
+    /// A module does not export a name (X.680 13.1).
+    #[error("its module does not export this name")]
+    NotExported,
+    /// A name is that of another definition, component, item or number of the same place.
+    #[error("this name occurs twice")]
+    NameTwice,
     /// A name leads to itself, or to another one more than 64 times.
     #[error("the definition leads back to itself")]
     Circular,
@@ -46,12 +52,21 @@ pub enum Problem {
     /// A CHOICE without a tag as an alternative of a CHOICE.
     #[error("an untagged CHOICE as an alternative is not supported")]
     UntaggedAlternative,
-    /// COMPONENTS OF a type that is no SEQUENCE or SET (X.680 25.5).
+    /// COMPONENTS OF a type that is no SEQUENCE in a SEQUENCE, or no SET in a SET (X.680 25.5 and 27.2).
     #[error("COMPONENTS OF a type that is not of this kind")]
     ComponentsOfOther,
+    /// Version brackets whose numbers are not given for all, are below 2 or do not ascend (X.680 25.1).
+    #[error("version numbers must ascend from 2 on, and be given in all version brackets or in none")]
+    VersionNumber,
+    /// A type that contains itself, so that each of its values has no end.
+    #[error("the type contains itself in each of its values")]
+    Endless,
     /// A value of another type.
     #[error("a value of another type")]
     ValueOfOtherType,
+    /// A default that the constraints of its type do not allow.
+    #[error("the constraints of its type do not allow this default")]
+    DefaultOutside,
     /// A default that tables do not hold.
     #[error("a default of this type is not supported")]
     UnsupportedDefault,
@@ -64,15 +79,36 @@ pub enum Problem {
     /// Two components or alternatives have one tag (X.680 25.6, 27.3 and 29.4).
     #[error("another component or alternative has this tag")]
     TagTwice,
+    /// IMPLICIT before a CHOICE without a tag (X.680 31.2.9).
+    #[error("IMPLICIT before an untagged CHOICE")]
+    ImplicitChoice,
+    /// A tag before an addition, where the root gets automatic tags (X.680 25.7 and 29.3).
+    #[error("an addition may have no tag where the root has automatic ones")]
+    MisplacedTag,
+    /// A constraint that types of this kind cannot have (X.680 51.1).
+    #[error("a type of this kind cannot have this constraint")]
+    ConstraintOfOther,
+    /// A value in a constraint that is none of the type before the constraint (X.680 51.2 and 51.4).
+    #[error("the type that is constrained does not have this value")]
+    OutsideParent,
     /// A constraint allows no value.
     #[error("the constraint allows no value")]
     EmptyConstraint,
     /// A size is above 2^64 - 1.
     #[error("the size is out of range")]
     SizeOutOfRange,
-    /// An item's number is out of range, or two items have one number (X.680 20.3).
-    #[error("the number of an item is out of range or occurs twice")]
+    /// The number of an item is out of range.
+    #[error("the number of an item is out of range")]
     ItemNumber,
+    /// The number of an added item is not above that of the added one before it (X.680 20.6).
+    #[error("the number of an added item is not above that of the one before it")]
+    ItemOrder,
+    /// The number of a bit is negative (X.680 22.1).
+    #[error("the number of a bit is negative")]
+    NegativeBit,
+    /// Two items, named numbers or bits have one number (X.680 19.4, 20.3 and 22.3).
+    #[error("this number occurs twice")]
+    NumberTwice,
     /// A constraint in a form that is not supported.
     #[error("this constraint is not supported")]
     UnsupportedConstraint,

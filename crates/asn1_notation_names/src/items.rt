@@ -1,8 +1,9 @@
 //! The items of an ENUMERATED, and their numbers (X.680 20).
+use crate::distinct::NameSet;
 use crate::errors::{NotationError, Problem};
 use crate::numbers::{ValueUse, number_of};
 use crate::scopes::{Files, Scope};
-use asn1_notation_rules::{ItemError, added_numbers, root_numbers};
+use asn1_notation_rules::{ItemError, ItemFlaw, added_numbers, root_numbers};
 use asn1_notation_tree::{Enumeration, EnumerationItem, Name};
 use std::alloc::Global;
 
@@ -71,12 +72,17 @@ fn all_given(
 fn item_error(scope: Scope, items: &[EnumerationItem], error: ItemError) -> NotationError {
     match error {
         ItemError::OutOfMemory => scope.error(0, Problem::OutOfMemory),
-        ItemError::Flawed { index, flaw: _ } => {
+        ItemError::Flawed { index, flaw } => {
             let place = match items.get(index) {
                 Some(item) => item.name.place,
                 None => 0,
             };
-            scope.error(place, Problem::ItemNumber)
+            let problem = match flaw {
+                ItemFlaw::Twice => Problem::NumberTwice,
+                ItemFlaw::NotAscending => Problem::ItemOrder,
+                ItemFlaw::NoNumber => Problem::ItemNumber,
+            };
+            scope.error(place, problem)
         }
     }
 }
@@ -97,6 +103,18 @@ fn joined<'a>(
     Ok(all)
 }
 
+/// Refuses items of which two have one name (X.680 20.2).
+fn check_names(alloc: Global, scope: Scope, items: &Enumeration) -> Result<(), NotationError> {
+    let mut names = NameSet::new(alloc);
+    for item in &items.root {
+        names.add(scope, item.name.place, &item.name)?;
+    }
+    for item in &items.additions {
+        names.add(scope, item.name.place, &item.name)?;
+    }
+    Ok(())
+}
+
 /// All items with their numbers (X.680 20).
 pub fn numbers_of<'a>(
     alloc: Global,
@@ -104,6 +122,7 @@ pub fn numbers_of<'a>(
     scope: Scope,
     items: &'a Enumeration,
 ) -> Result<Numbers<'a>, NotationError> {
+    check_names(alloc, scope, items)?;
     let root = items.root.as_slice();
     let given = all_given(alloc, files, scope, root)?;
     let taken = root_numbers(alloc, given.as_slice()).map_err(|error| item_error(

@@ -7,8 +7,8 @@ use crate::suggestions::{
     unknown_first_module, unknown_first_type, unknown_module, unknown_symbol,
 };
 use asn1_notation_tree::{
-    Assignment, ConstraintIndex, ConstraintTerm, Import, Module, Name, Syntax, TypeIndex, TypeTerm,
-    ValueIndex, ValueTerm,
+    Assignment, ConstraintIndex, ConstraintTerm, Exports, Import, Module, Name, Syntax, TypeIndex,
+    TypeTerm, ValueIndex, ValueTerm,
 };
 use std::alloc::{AllocError, Global};
 use std::collections::BTreeMap;
@@ -94,6 +94,8 @@ pub struct Index<'a> {
     defined: Vec<Entry<'a>>,
     /// Those that modules import, each with the index of its import.
     imported: Vec<Entry<'a>>,
+    /// Those that modules with a list of them export.
+    exported: Vec<Entry<'a>>,
 }
 
 impl<'a> Index<'a> {
@@ -103,6 +105,7 @@ impl<'a> Index<'a> {
             modules: Vec::new(alloc),
             defined: Vec::new(alloc),
             imported: Vec::new(alloc),
+            exported: Vec::new(alloc),
         };
         for file in 0..files.len() {
             let modules = files[file].modules.as_slice();
@@ -113,6 +116,7 @@ impl<'a> Index<'a> {
         all.modules.sort_by_key(|entry| (entry.name, entry.scope))?;
         all.defined.sort_by_key(|entry| (entry.name, entry.scope))?;
         all.imported.sort_by_key(|entry| (entry.name, entry.scope))?;
+        all.exported.sort_by_key(|entry| (entry.name, entry.scope))?;
         Ok(all)
     }
 
@@ -139,8 +143,64 @@ impl<'a> Index<'a> {
                 })?;
             }
         }
+        if let Exports::Symbols(symbols) = &module.exports {
+            for symbol in symbols {
+                self.exported.push(Entry {
+                    name: symbol.text.as_str(),
+                    scope,
+                    index: 0,
+                })?;
+            }
+        }
         Ok(())
     }
+
+    /// Refuses a name that two assignments of a module have, and one that two modules have of which one has no object
+    /// identifier (X.680 13.3 and 13.4).
+    pub fn check_names(&self, files: &[Syntax]) -> Result<(), NotationError> {
+        for pair in self.modules.windows(2) {
+            let [first, second] = pair else {
+                continue;
+            };
+            if first.name != second.name {
+                continue;
+            }
+            if let (Some(one), Some(other)) = (
+                module_in(files, first.scope),
+                module_in(files, second.scope),
+            ) {
+                if one.identifier.is_none() || other.identifier.is_none() {
+                    return Err(second.scope.error(other.name.place, Problem::NameTwice));
+                }
+            }
+        }
+        for pair in self.defined.windows(2) {
+            let [first, second] = pair else {
+                continue;
+            };
+            if first.name == second.name && first.scope == second.scope {
+                return Err(repeated(files, *second));
+            }
+        }
+        Ok(())
+    }
+}
+
+/// A module of some files.
+fn module_in(files: &[Syntax], scope: Scope) -> Option<&Module> {
+    files.get(scope.file)?.modules.get(scope.module)
+}
+
+/// An error at the name of an assignment.
+fn repeated(files: &[Syntax], entry: Entry<'_>) -> NotationError {
+    let place = match module_in(files, entry.scope) {
+        Some(module) => match module.assignments.get(entry.index) {
+            Some(assignment) => assignment.name.place,
+            None => 0,
+        },
+        None => 0,
+    };
+    entry.scope.error(place, Problem::NameTwice)
 }
 
 /// The first entry with a name, in a module or a later one.
@@ -189,7 +249,7 @@ impl<'a, 'i> Files<'a, 'i> {
 
     /// A module.
     pub fn module(&self, scope: Scope) -> Option<&'a Module> {
-        self.files.get(scope.file)?.modules.get(scope.module)
+        module_in(self.files, scope)
     }
 
     /// An assignment.
@@ -260,6 +320,21 @@ impl<'a, 'i> Files<'a, 'i> {
         None
     }
 
+    /// Whether a module exports a name (X.680 13.1).
+    fn exports(&self, scope: Scope, name: &str) -> bool {
+        let lists = match self.module(scope) {
+            Some(module) => matches!(module.exports, Exports::Symbols(_)),
+            None => false,
+        };
+        !lists || entry_in(self.index.exported.as_slice(), name, scope.outside()).is_some()
+    }
+
+    /// Whether a module defines or imports a name, and does not export it.
+    fn keeps(&self, scope: Scope, name: &str) -> bool {
+        let has = self.find_in(scope, name).is_some() || self.import_of(scope, name).is_some();
+        has && !self.exports(scope, name)
+    }
+
     /// What a name in a module stands for: an assignment of the module itself, or of one from which it imports the
     /// name, through at most 64 modules.
     pub fn find_symbol(&self, scope: Scope, name: &str) -> Option<Symbol> {
@@ -270,6 +345,9 @@ impl<'a, 'i> Files<'a, 'i> {
             }
             let (import, _) = self.import_of(scope, name)?;
             scope = self.find_module(import.module.text.as_str())?;
+            if !self.exports(scope, name) {
+                return None;
+            }
         }
         None
     }
@@ -278,8 +356,8 @@ impl<'a, 'i> Files<'a, 'i> {
     ///
     /// # Errors
     ///
-    /// `UnknownModule` at the name of a module that is not among the files, there or in an IMPORTS. The problem that is
-    /// given, if nothing has the name: at it, or where it is imported.
+    /// `UnknownModule` at the name of a module that is not among the files, there or in an IMPORTS. `NotExported`, or
+    /// the problem that is given if nothing has the name: at it, or where it is imported.
     pub fn find(
         &self,
         scope: Scope,
@@ -292,6 +370,9 @@ impl<'a, 'i> Files<'a, 'i> {
             let Some(searched) = self.find_module(module.text.as_str()) else {
                 return Err(unknown_module(self, scope, module));
             };
+            if searched != scope.outside() && self.keeps(searched, text) {
+                return Err(scope.error(name.place, Problem::NotExported));
+            }
             return match self.find_in(searched, text) {
                 Some(found) => Ok(found),
                 None => Err(unknown_symbol(self, scope, searched, text, name.place, missing)),
@@ -309,18 +390,23 @@ impl<'a, 'i> Files<'a, 'i> {
         let mut scope = scope;
         let mut searched = scope;
         let mut place = name.place;
+        let mut first = None;
         for _ in 0..MOST_MODULES {
             let Some((import, symbol)) = self.import_of(searched, text) else {
                 return unknown_symbol(self, scope, searched, text, place, missing);
             };
             scope = searched;
             place = symbol.place;
+            first = first.or(Some(scope.error(place, Problem::Circular)));
             match self.find_module(import.module.text.as_str()) {
+                Some(exporter) if self.keeps(exporter, text) => {
+                    return scope.error(place, Problem::NotExported);
+                }
                 Some(exporter) => searched = exporter,
                 None => return unknown_module(self, scope, &import.module),
             }
         }
-        scope.error(place, Problem::Circular)
+        first.unwrap_or(scope.error(place, Problem::Circular))
     }
 
     /// The first assignment with a name, of all modules or of the one that is named.
