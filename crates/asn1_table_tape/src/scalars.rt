@@ -11,7 +11,7 @@ ghost use Rattle.asn1_table_types.specs.declared.nodes.TypeNode.TheVariants as n
 ghost use Rattle.asn1_table_tape.specs.Records.{records_of};
 
 use crate::tape::{Event, keep};
-use crate::terms::{items_at, number_constraints, size_constraints};
+use crate::terms::{items_at, number_constraints, numbers_up_to, size_constraints};
 use asn1_schema_constraints::{Bounded, Sizes};
 use asn1_schema_decode::{Decoder, ReadOctets};
 use asn1_schema_errors::DecodeError;
@@ -79,7 +79,53 @@ pub fn read_number<D: Decoder>(
     ensures going { OnOk result (D.has_failed decoder.new → ⊥) }
     ensures call { DecoderCall D.has_failed (SameLevel D.levels) decoder.old decoder.new result }
 {
-    let constraints = number_constraints(limits);
+    let Some(
+        NumberLimits {
+            root: Bounded::Range {
+                start: Some(0),
+                end: Some(high),
+            },
+            is_extensible: false,
+        },
+    ) = limits
+    else {
+        return read_limited(alloc, decoder, limits, *limits, place, tape);
+    };
+    match *high {
+        0xFF => read_limited(alloc, decoder, limits, numbers_up_to(0xFF), place, tape),
+        0xFFFF => read_limited(alloc, decoder, limits, numbers_up_to(0xFFFF), place, tape),
+        0xFFFF_FFFF => {
+            let known = numbers_up_to(0xFFFF_FFFF);
+            read_limited(alloc, decoder, limits, known, place, tape)
+        }
+        0xFFFF_FFFF_FFFF_FFFF => {
+            let known = numbers_up_to(0xFFFF_FFFF_FFFF_FFFF);
+            read_limited(alloc, decoder, limits, known, place, tape)
+        }
+        _ => read_limited(alloc, decoder, limits, *limits, place, tape),
+    }
+}
+
+// The same, compiled for the limits where they are known: literals for the commonest types.
+#[inline(always)]
+fn read_limited<D: Decoder>(
+    alloc: Global,
+    decoder: &mut D,
+    _limits: &Option<NumberLimits>,
+    known: Option<NumberLimits>,
+    place: usize,
+    tape: &mut Vec<Event>,
+) -> Result<(), DecodeError>
+    requires { known ≡ _limits.now }
+    ensures ok { OnOk result ((ns : List Node) → slice_get ns place ≡ Some (node.Integer _limits.now)
+        → Told D.step (type_of ns (D.levels decoder.old) (Some (node.Integer _limits.now))) decoder.old decoder.new
+        (records_of ns tape.old.items) (records_of ns tape.new.items)) }
+    ensures only { IfErr result (λ x. (ns : List Node) → NoValue D.step D.too_few
+        (type_of ns (D.levels decoder.old) (Some (node.Integer _limits.now))) decoder.old decoder.new x) }
+    ensures going { OnOk result (D.has_failed decoder.new → ⊥) }
+    ensures call { DecoderCall D.has_failed (SameLevel D.levels) decoder.old decoder.new result }
+{
+    let constraints = number_constraints(&known);
     let number: Integer = decoder.decode_integer(alloc, Tag::INTEGER, &constraints)?;
     keep(decoder, tape, Event::Number(place, number))?;
     Ok(())

@@ -1,9 +1,10 @@
 //! The constraints of a type of a table, and counts of components, as codecs take them.
 #![tactic(auto, using(std::proofs::lemmas::Grind::common_steps))]
 
-ghost use Rattle.std.specs.Prelude.{◌≡◌, ℕ, ℤ, Bool, false, [], List, slice_get};
+ghost use Rattle.std.specs.Prelude.{◌≡◌, ℕ, ℤ, pos, Bool, false, [], List, Some, slice_get};
 ghost use Rattle.asn1_model.specs.Normal.{is_required};
 ghost use Rattle.asn1_model.specs.Schema.{any_number, any_count, any_size};
+ghost use Rattle.asn1_schema_constraints.specs.declared.bounds.Bounded.TheVariants.{Range};
 ghost use Rattle.asn1_schema_constraints.specs.Terms.{bounds_of, held_of, sizes_of, size_of, alphabet_of};
 ghost use Rattle.asn1_table_types.specs.Meaning.{bounds_in, held_in, alphabet_in, presence_of};
 ghost use Rattle.asn1_schema_laws.specs.Records.{one_of, bits, octets};
@@ -24,7 +25,22 @@ use asn1_table_types::{
 };
 use std::marker::Model;
 
+/// The limits of INTEGER (0..high).
+#[inline(always)]
+pub fn numbers_up_to(high: i128) -> Option<NumberLimits>
+    ensures { result ≡ Some (record { root = Range (Some (pos 0)) (Some high); is_extensible = false }) }
+{
+    Some(NumberLimits {
+        root: Bounded::Range {
+            start: Some(0),
+            end: Some(high),
+        },
+        is_extensible: false,
+    })
+}
+
 /// The value constraint of an INTEGER (X.680 51.4 and 52).
+#[inline(always)]
 pub fn number_constraints(limits: &Option<NumberLimits>) -> Constraints<'static>
     ensures bounds { bounds_of result.value ≡ bounds_in limits.now }
     ensures held { held_of result.value any_number ≡ held_in limits.now }
