@@ -15,7 +15,8 @@ ghost use Rattle.asn1_table_types.specs.Meaning.{bounds_in, held_in};
 use crate::strings::replay_text;
 use crate::tape::Event;
 use crate::terms::{
-    any_sizes, bit_sizes_at, items_at, number_constraints, octet_sizes_at, size_constraints,
+    any_sizes, bit_sizes_at, items_at, number_constraints, numbers_up_to, octet_sizes_at,
+    size_constraints,
 };
 use asn1_schema_constraints::Bounded;
 use asn1_schema_encode::Encoder;
@@ -113,7 +114,61 @@ fn write_number<E: Encoder>(
         (Refused E.step (whole (bounds_in limits.now) (held_in limits.now) value.now) encoder.old) }
     ensures call { EncoderCall E.has_failed E.front encoder.old encoder.new result }
 {
-    let constraints = number_constraints(limits);
+    let Some(
+        NumberLimits {
+            root: Bounded::Range {
+                start: Some(0),
+                end: Some(high),
+            },
+            is_extensible: false,
+        },
+    ) = limits
+    else {
+        return write_any(encoder, limits, value);
+    };
+    match *high {
+        0xFF => write_limited(encoder, limits, numbers_up_to(0xFF), value),
+        0xFFFF => write_limited(encoder, limits, numbers_up_to(0xFFFF), value),
+        0xFFFF_FFFF => write_limited(encoder, limits, numbers_up_to(0xFFFF_FFFF), value),
+        0xFFFF_FFFF_FFFF_FFFF => {
+            write_limited(encoder, limits, numbers_up_to(0xFFFF_FFFF_FFFF_FFFF), value)
+        }
+        _ => write_any(encoder, limits, value),
+    }
+}
+
+// The same of any limits, apart from the commonest ones.
+#[inline(never)]
+fn write_any<E: Encoder>(
+    encoder: &mut E,
+    limits: &Option<NumberLimits>,
+    value: &Integer,
+) -> Result<(), EncodeError>
+    ensures ok { OnOk result
+        (E.step encoder.old (whole (bounds_in limits.now) (held_in limits.now) value.now) encoder.new) }
+    ensures only { IfErr result
+        (Refused E.step (whole (bounds_in limits.now) (held_in limits.now) value.now) encoder.old) }
+    ensures call { EncoderCall E.has_failed E.front encoder.old encoder.new result }
+{
+    write_limited(encoder, limits, *limits, value)
+}
+
+// The same, compiled for the limits where they are known: literals for the commonest types.
+#[inline(always)]
+fn write_limited<E: Encoder>(
+    encoder: &mut E,
+    _limits: &Option<NumberLimits>,
+    known: Option<NumberLimits>,
+    value: &Integer,
+) -> Result<(), EncodeError>
+    requires { known ≡ _limits.now }
+    ensures ok { OnOk result
+        (E.step encoder.old (whole (bounds_in _limits.now) (held_in _limits.now) value.now) encoder.new) }
+    ensures only { IfErr result
+        (Refused E.step (whole (bounds_in _limits.now) (held_in _limits.now) value.now) encoder.old) }
+    ensures call { EncoderCall E.has_failed E.front encoder.old encoder.new result }
+{
+    let constraints = number_constraints(&known);
     encoder.encode_integer(Tag::INTEGER, &constraints, value, Identifier::INTEGER)?;
     Ok(())
 }

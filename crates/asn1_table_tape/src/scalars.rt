@@ -89,7 +89,7 @@ pub fn read_number<D: Decoder>(
         },
     ) = limits
     else {
-        return read_limited(alloc, decoder, limits, *limits, place, tape);
+        return read_any(alloc, decoder, limits, place, tape);
     };
     match *high {
         0xFF => read_limited(alloc, decoder, limits, numbers_up_to(0xFF), place, tape),
@@ -102,8 +102,28 @@ pub fn read_number<D: Decoder>(
             let known = numbers_up_to(0xFFFF_FFFF_FFFF_FFFF);
             read_limited(alloc, decoder, limits, known, place, tape)
         }
-        _ => read_limited(alloc, decoder, limits, *limits, place, tape),
+        _ => read_any(alloc, decoder, limits, place, tape),
     }
+}
+
+// The same of any limits, apart from the commonest ones.
+#[inline(never)]
+fn read_any<D: Decoder>(
+    alloc: Global,
+    decoder: &mut D,
+    limits: &Option<NumberLimits>,
+    place: usize,
+    tape: &mut Vec<Event>,
+) -> Result<(), DecodeError>
+    ensures ok { OnOk result ((ns : List Node) → slice_get ns place ≡ Some (node.Integer limits.now)
+        → Told D.step (type_of ns (D.levels decoder.old) (Some (node.Integer limits.now))) decoder.old decoder.new
+        (records_of ns tape.old.items) (records_of ns tape.new.items)) }
+    ensures only { IfErr result (λ x. (ns : List Node) → NoValue D.step D.too_few
+        (type_of ns (D.levels decoder.old) (Some (node.Integer limits.now))) decoder.old decoder.new x) }
+    ensures going { OnOk result (D.has_failed decoder.new → ⊥) }
+    ensures call { DecoderCall D.has_failed (SameLevel D.levels) decoder.old decoder.new result }
+{
+    read_limited(alloc, decoder, limits, *limits, place, tape)
 }
 
 // The same, compiled for the limits where they are known: literals for the commonest types.

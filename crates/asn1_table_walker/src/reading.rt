@@ -23,8 +23,9 @@ use asn1_table_tape::Event;
 use asn1_table_types::Types;
 use std::alloc::Global;
 
-/// For how many records there is room before the first one is kept.
-const FIRST_RECORDS: usize = 16;
+/// For how many records there is room before the first one is kept: with 48 octets each about 1 KiB, which allocators
+/// find fast.
+const FIRST_RECORDS: usize = 21;
 
 /// Reads the value of the type at this index of a table whose records are next, and puts the records of its normal
 /// form on the tape. An index outside the table is that of a type without values. After an error the decoder has
