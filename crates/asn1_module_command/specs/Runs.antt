@@ -1,11 +1,12 @@
 -- What a run over a type of a table does with its reader and its writer, whose octets are those that the one will still
 -- return and the other holds, if they are known.
-use Rattle.std.specs.Prelude.{◌≡◌, ◌≤◌, ℕ, List, Option, Some, None, true}
+use Rattle.std.specs.Prelude.{◌≡◌, ◌≤◌, ℕ, List, Option, Some, None, IsSome, false, true}
 use Rattle.asn1_model.specs.Lawful.{is_of}
 use Rattle.asn1_model.specs.Schema.{Schema}
 use Rattle.asn1_model.specs.Value.{Value}
 use Rattle.asn1_notation_types.specs.declared.tables.Table.{Table}
-use Rattle.asn1_relay_command.specs.Runs.{DoesOnceAs, DoesStreamAs, HasWritten, IsRunFaultAs, Known, StopsOnceAs}
+use Rattle.asn1_relay_command.specs.Runs.{DoesOnceAs, DoesStreamAs, HasWritten, IsRunFaultAs, IsUntouched, Known}
+use Rattle.asn1_relay_command.specs.Runs.{StopsOnceAs}
 use Rattle.asn1_relay_command.specs.declared.fault.Fault.{Fault}
 use Rattle.asn1_relay_core.specs.Coding.{IsWritten, rules_of}
 use Rattle.asn1_relay_core.specs.declared.codec.Codec.{Codec}
@@ -13,10 +14,16 @@ use Rattle.asn1_schema_laws.specs.Tables.{IsValue}
 use Rattle.asn1_table_types.specs.Meaning.{type_at}
 use Rattle.asn1_module_command.specs.declared.errors.CommandError.{CommandError}
 use Rattle.asn1_module_command.specs.declared.errors.CommandError.TheVariants as error
+use Rattle.asn1_module_command.specs.declared.errors.Stop.{Stop}
+use Rattle.asn1_module_command.specs.declared.errors.Stop.TheVariants as stop
 use Rattle.asn1_module_command.specs.declared.order.Action.{Action}
 use Rattle.asn1_module_command.specs.declared.order.Action.TheVariants as action
 use Rattle.asn1_module_command.specs.declared.order.Extent.{Extent}
 use Rattle.asn1_module_command.specs.declared.order.Extent.TheVariants as extent
+use Rattle.asn1_module_command.specs.declared.order.Form.{Form}
+use Rattle.asn1_module_command.specs.declared.order.Form.TheVariants as form
+use Rattle.asn1_module_command.specs.declared.order.Order.{Order}
+use Rattle.asn1_module_command.specs.declared.order.Translation.{Translation}
 
 -- the type of a table
 abbrev pub schema_in : Table → Schema
@@ -34,6 +41,7 @@ CanBeDone a = Unit {0}
 -- the fault of an error, if it is one that the types of the program can have
 abbrev pub fault_in : CommandError → Option Fault
 fault_in (error.Fault f) = Some f
+fault_in (error.Located f place) = Some f
 fault_in e = None
 
 -- the input was read and translated, and the result written
@@ -66,3 +74,70 @@ pub record IsEncoding (s : Schema) (to : Codec) (octets : List ℕ) : Type 0 whe
 -- such an encoding was written
 abbrev pub WritesEncoding : Schema → Codec → Known → Known → Type 0
 WritesEncoding s to held held' = HasWritten (IsEncoding s to) held held'
+
+-- ---- translations
+
+-- one message in JSON was read, and its encoding written; nothing is said of a stream
+abbrev pub Encodes : Extent → Schema → Codec → Known → Known → Type 0
+Encodes extent.Message s to held held' = WritesEncoding s to held held'
+Encodes (extent.Stream limit) s to held held' = Unit {0}
+
+-- the input was read and translated to the first form from the second, and the result written; nothing is said of JSON
+-- that is written
+abbrev pub DoesIn : Extent → Schema → Form → Form → Known → Known → Known → Known → Type 0
+DoesIn x s form.Json from unread unread' held held' = Unit {0}
+DoesIn x s (form.Rules to) (form.Rules from) unread unread' held held' = Does x s from to unread unread' held held'
+DoesIn x s (form.Rules to) form.Json unread unread' held held' = Encodes x s to held held'
+
+-- an error stops this; nothing is said where there is JSON
+abbrev pub StopsIn : Extent → Schema → Form → Form → Known → Known → Known → Known → CommandError → Type 0
+StopsIn x s form.Json from unread unread' held held' e = Unit {0}
+StopsIn x s (form.Rules to) (form.Rules from) unread unread' held held' e =
+    StopsBy x s from to unread unread' held held' e
+StopsIn x s (form.Rules to) form.Json unread unread' held held' e = Unit {0}
+
+-- what was requested is done; nothing is said of hexadecimal digits
+abbrev pub HasTranslated : Translation → Schema → Known → Known → Known → Known → Type 0
+HasTranslated t s unread unread' held held' =
+    t.is_hexadecimal ≡ false → DoesIn t.extent s t.to t.from unread unread' held held'
+
+-- an error stops this
+abbrev pub StopsTranslating : Translation → Schema → Known → Known → Known → Known → CommandError → Type 0
+StopsTranslating t s unread unread' held held' e =
+    t.is_hexadecimal ≡ false → StopsIn t.extent s t.to t.from unread unread' held held' e
+
+-- ---- orders
+
+-- what was requested of a type is done; nothing is said of a message that is checked, and of a type that is printed
+abbrev pub HasActed : Action → Schema → Known → Known → Known → Known → Type 0
+HasActed (action.Translate t) s unread unread' held held' = HasTranslated t s unread unread' held held'
+HasActed a s unread unread' held held' = Unit {0}
+
+-- an error stops this
+abbrev pub StopsActing : Action → Schema → Known → Known → Known → Known → CommandError → Type 0
+StopsActing (action.Translate t) s unread unread' held held' e = StopsTranslating t s unread unread' held held' e
+StopsActing a s unread unread' held held' e = Unit {0}
+
+-- it is done for the type of a table, all of whose types are lawful
+pub record IsDoneFor (a : Action) (unread unread' held held' : Known) : Type 0 where
+  pub table : Table
+  pub done : HasActed a (schema_in table) unread unread' held held'
+
+pub record IsStoppedFor (a : Action) (unread unread' held held' : Known) (e : CommandError) : Type 0 where
+  pub table : Table
+  pub stops : StopsActing a (schema_in table) unread unread' held held' e
+
+-- status 0: for the table that the modules became, what was requested of the type is done
+abbrev pub HasDone : Order → Known → Known → Known → Known → Type 0
+HasDone o unread unread' held held' = IsSome o.type_name → IsDoneFor o.action unread unread' held held'
+
+-- nothing was read and nothing written, since there is no table, or else an error stops what was requested of the type
+abbrev pub StopsAt : Order → Known → Known → Known → Known → Stop → Type 0
+StopsAt o unread unread' held held' (stop.Module e) = IsUntouched unread unread' held held'
+StopsAt o unread unread' held held' (stop.Command e) =
+    IsSome o.type_name → IsStoppedFor o.action unread unread' held held' e
+
+-- status 1: one of these
+pub record HasFailed (o : Order) (unread unread' held held' : Known) : Type 0 where
+  pub reason : Stop
+  pub stops : StopsAt o unread unread' held held' reason

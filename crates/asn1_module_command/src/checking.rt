@@ -1,9 +1,9 @@
 //! Whether a message is canonical.
-use crate::differing::first_difference;
 use crate::errors::CommandError;
 use crate::order::Form;
 use crate::values::Typed;
-use asn1_relay_core::{Codec, MessageType};
+use asn1_relay_core::Codec;
+use asn1_table_locating::{Located, first_difference};
 
 /// The rules that accept of these only what encoders write, but for the freedoms that strict readers have.
 fn strict_rules(rules: Codec) -> Codec {
@@ -19,7 +19,7 @@ fn strict_rules(rules: Codec) -> Codec {
 ///
 /// # Errors
 ///
-/// `NotAnEncoding` or `SurplusOctets`; `NotCanonical` or `NotStrict` with the first octet at which it differs from the
+/// `Located` if it is no encoding; `NotCanonical` or `NotStrict` with the first octet at which it differs from the
 /// canonical encoding of its value, which has no unknown additions; `OutOfMemory`.
 pub(crate) fn check_canonical(
     typed: Typed<'_>,
@@ -31,11 +31,8 @@ pub(crate) fn check_canonical(
     let Some(octet) = first_difference(message, canonical.as_slice()) else {
         return Ok(());
     };
-    match typed
-        .message_type()
-        .read_front(typed.alloc, strict_rules(rules), message)
-    {
-        Ok(_) => Err(CommandError::NotCanonical(octet)),
-        Err(refusal) => Err(CommandError::NotStrict(octet, refusal.error)),
+    match typed.locate(strict_rules(rules), message)? {
+        Located::Refused(refused) => Err(CommandError::NotStrict(octet, refused)),
+        Located::Read(_) => Err(CommandError::NotCanonical(octet)),
     }
 }

@@ -70,10 +70,24 @@ impl<'a> Messages<'a> {
         }
     }
 
+    /// A fault at the next message.
+    fn fault(&self, kind: RelayFaultKind) -> Fault {
+        let number = self.number;
+        Fault::AtMessage(RelayFault { number, kind })
+    }
+
     /// An error at the next message.
     fn error(&self, kind: RelayFaultKind) -> CommandError {
-        let number = self.number;
-        CommandError::Fault(Fault::AtMessage(RelayFault { number, kind }))
+        CommandError::Fault(self.fault(kind))
+    }
+
+    /// An error at the next message, and where in the message it is, if that is known.
+    fn refused(&self, kind: RelayFaultKind) -> CommandError {
+        let fault = self.fault(kind);
+        match self.from {
+            Form::Rules(rules) => self.typed.located(rules, self.within(), fault),
+            Form::Json => CommandError::Fault(fault),
+        }
     }
 
     /// The next message, if there is one.
@@ -91,7 +105,7 @@ impl<'a> Messages<'a> {
                 Front::Nothing(count) => self.taken = self.taken.saturating_add(count),
                 Front::Part(needed) => {
                     if self.has_ended {
-                        return Err(self.error(RelayFaultKind::NoForm));
+                        return Err(self.refused(RelayFaultKind::NoForm));
                     }
                     self.read_more(input, needed)?;
                 }
@@ -105,6 +119,12 @@ impl<'a> Messages<'a> {
         self.unread.get(self.taken..).unwrap_or(&[])
     }
 
+    /// Those of them that a message may have.
+    fn within(&self) -> &[u8] {
+        let rest = self.rest();
+        rest.get(..self.limit).unwrap_or(rest)
+    }
+
     /// What these octets begin with.
     fn front(&self) -> Result<Front, CommandError> {
         match self.from {
@@ -115,8 +135,7 @@ impl<'a> Messages<'a> {
 
     /// What these octets begin with, in some rules.
     fn encoding(&self, rules: Codec) -> Result<Front, CommandError> {
-        let rest = self.rest();
-        let within = rest.get(..self.limit).unwrap_or(rest);
+        let within = self.within();
         if within.is_empty() {
             return Ok(Front::Part(1));
         }
@@ -136,8 +155,8 @@ impl<'a> Messages<'a> {
                 if refusal.error == DecodeError::OutOfMemory {
                     return Err(self.error(RelayFaultKind::Memory));
                 }
-                if rest.len() > self.limit {
-                    return Err(self.error(RelayFaultKind::NoneWithinLimit));
+                if self.rest().len() > self.limit {
+                    return Err(self.refused(RelayFaultKind::NoneWithinLimit));
                 }
                 Ok(Front::Part(refusal.needed))
             }

@@ -2,17 +2,17 @@
 #![tactic(auto, using(std::proofs::lemmas::Grind::common_steps))]
 
 mod checking;
-mod differing;
 mod errors;
 mod hexadecimal;
 mod joined;
+mod locating;
 mod order;
 mod program;
 mod sources;
 mod translating;
 mod values;
 
-pub use errors::{CommandError, ModuleError};
+pub use errors::{CommandError, ModuleError, Place, Stop};
 pub use order::{Action, Extent, Form, Order, Translation, names_modules, read_order};
 pub use program::{module_command, obey};
 pub use sources::{Source, write_module_error};

@@ -74,6 +74,10 @@ pub struct Order {
     pub additions: Additions,
     /// What is done with the type.
     pub action: Action,
+    /// The file of the input, if it is not standard input.
+    pub input: Option<String>,
+    /// The file of the output, if it is not standard output.
+    pub output: Option<String>,
 }
 
 /// Whether a command line names a module, so that it is one for `module_command`.
@@ -87,9 +91,14 @@ pub fn names_modules<S: AsStr>(words: &[S]) -> bool {
     false
 }
 
-/// An option with one value.
+/// An option with one value, which may be left out.
+fn optional<'a>(alloc: Global, name: &'a str, help: &'a str) -> Arg<'a> {
+    Arg::new(alloc, name).long(name).help(help)
+}
+
+/// A required option with one value.
 fn option<'a>(alloc: Global, name: &'a str, help: &'a str) -> Arg<'a> {
-    Arg::new(alloc, name).long(name).required(true).help(help)
+    optional(alloc, name, help).required(true)
 }
 
 /// An option without a value.
@@ -123,6 +132,11 @@ fn with_type<'a>(
     with_modules(alloc, command)?
         .arg(option(alloc, "type", "the type of a message: NAME, or MODULE.NAME"))?
         .arg(option(alloc, "from", from))?
+        .arg(optional(
+            alloc,
+            "input",
+            "the file of the input; standard input if left out",
+        ))?
         .arg(flag(
             alloc,
             "hex",
@@ -144,13 +158,18 @@ fn translating<'a>(
             "to",
             "what the output is: uper, aper, uper-strict, aper-strict, oer, coer or json",
         ))?
+        .arg(optional(
+            alloc,
+            "output",
+            "the file of the output, made anew; standard output if left out",
+        ))?
         .arg(flag(alloc, "pretty", "JSON is laid out in lines"))
 }
 
 /// The command that says whether a message is canonical.
 fn checking<'a>(alloc: Global) -> Result<Command<'a>, AllocError> {
     let command = Command::new(alloc, "check").about(
-        "Says whether a message, all of standard input, is canonical, and if not, from which octet on",
+        "Says whether a message, the whole input, is canonical, and if not, from which octet on",
     );
     let from = "the rules of the input: uper, aper, uper-strict, aper-strict, oer or coer";
     with_type(alloc, command, from)
@@ -161,10 +180,11 @@ fn listing<'a>(alloc: Global) -> Result<Command<'a>, AllocError> {
     let command = Command::new(alloc, "types").about(
         "Lists the types of ASN.1 modules, or prints one as it is understood",
     );
-    let name = Arg::new(alloc, "type")
-        .long("type")
-        .help("the type to be printed: NAME, or MODULE.NAME");
-    with_modules(alloc, command)?.arg(name)
+    with_modules(alloc, command)?.arg(optional(
+        alloc,
+        "type",
+        "the type to be printed: NAME, or MODULE.NAME",
+    ))
 }
 
 /// The option of a stream: how long a message may be.
@@ -182,10 +202,10 @@ fn grammar<'a>(alloc: Global) -> Result<Command<'a>, AllocError> {
     let once = translating(
         alloc,
         "once",
-        "Translates one message of a type of ASN.1 modules, all of standard input",
+        "Translates one message of a type of ASN.1 modules, the whole input",
     )?
     .after_help(
-        "Example: asn1_relay once --module cam.asn --type CAM --from uper --to json --pretty < message",
+        "Example: asn1_relay once --module cam.asn --type CAM --from uper --to json --pretty --input message",
     );
     let stream = translating(
         alloc,
@@ -290,6 +310,8 @@ fn order_in(
     };
     let modules = strings_of(alloc, options.get_strs("module"))?;
     let type_name = string_of(alloc, options.get_str("type"))?;
+    let input = string_of(alloc, options.get_str("input"))?;
+    let output = string_of(alloc, options.get_str("output"))?;
     let additions = if options.get_flag("required-additions") {
         Additions::AreRequired
     } else {
@@ -300,6 +322,8 @@ fn order_in(
         type_name,
         additions,
         action,
+        input,
+        output,
     }))
 }
 

@@ -1,9 +1,11 @@
 //! The command over modules.
-ghost use Rattle.std.specs.Prelude.{◌≡◌, ◌≤◌};
-ghost use Rattle.asn1_module_command.specs.Runs.{CanBeDone};
+ghost use Rattle.std.specs.Prelude.{◌≡◌, ◌≤◌, MatchResult};
+ghost use Rattle.asn1_relay_command.specs.Runs.{IsUntouched};
+ghost use Rattle.asn1_module_command.specs.Runs.{CanBeDone, HasActed, HasDone, HasFailed, StopsActing, StopsAt};
+ghost use Rattle.asn1_module_command.specs.Runs.{schema_in};
 
 use crate::checking::check_canonical;
-use crate::errors::{CommandError, ModuleError};
+use crate::errors::{CommandError, Stop};
 use crate::hexadecimal::octets_of;
 use crate::order::{Action, Order, read_order};
 use crate::sources::{Source, read_files, table_named, write_module_error};
@@ -13,6 +15,7 @@ use asn1_notation_printing::{list_types, print_type};
 use asn1_notation_syntax::Syntax;
 use asn1_notation_types::Table;
 use asn1_relay_command::{Fault, read_all, report, write_all};
+use asn1_relay_core::Codec;
 use clap::error::ErrorKind as ParseErrorKind;
 use std::alloc::Global;
 use std::convert::AsStr;
@@ -24,9 +27,11 @@ use std::rt::Files;
 /// status:
 ///
 /// * 0: everything was read, and the result was written and flushed.
-/// * 1: a module, or the input, could not be read or translated, the result could not be written, or memory ran out.
-///   What is wrong is written to `errors`.
+/// * 1: a file, a module or the input could not be read or translated, the result could not be written, or memory ran
+///   out. What is wrong is written to `errors`.
 /// * 2: the command line is not valid. A text is written to `errors`.
+///
+/// A file that the command line names is read in the place of `input`, or written in that of `output`.
 pub fn module_command<F: Files + AllocGlobal, S: AsStr, R: Read, W: Write, E: Write>(
     rt: &F,
     words: &[S],
@@ -34,23 +39,24 @@ pub fn module_command<F: Files + AllocGlobal, S: AsStr, R: Read, W: Write, E: Wr
     output: &mut W,
     errors: &mut E,
 ) -> u8
-    ensures { result ≤ 2 }
+    ensures status { result ≤ 2 }
+    ensures bad { result ≡ 2 → IsUntouched
+        (R.remaining input.old) (R.remaining input.new) (W.contents output.old) (W.contents output.new) }
 {
-    let alloc = rt.alloc();
-    let order = match read_order(alloc, words) {
+    let order = match read_order(rt.alloc(), words) {
         Ok(order) => order,
         Err(error) => return refuse(&error, errors),
     };
     let sources = match read_sources(rt, order.modules.as_slice()) {
         Ok(sources) => sources,
-        Err(unread) => return refuse_file(&unread, errors),
+        Err(unread) => return refuse_file(unread.name.as_str(), &unread.error, errors),
     };
-    obey(alloc, &order, sources.as_slice(), input, output, errors)
+    obey_from(rt, &order, sources.as_slice(), input, output, errors)
 }
 
-/// Does what was requested with the modules of these files, and returns the exit status, as `module_command` does.
-pub fn obey<R: Read, W: Write, E: Write>(
-    alloc: Global,
+/// Does what was requested, with the file of the input in the place of `input` if there is one.
+fn obey_from<F: Files + AllocGlobal, R: Read, W: Write, E: Write>(
+    rt: &F,
     order: &Order,
     sources: &[Source],
     input: &mut R,
@@ -60,30 +66,56 @@ pub fn obey<R: Read, W: Write, E: Write>(
     requires { CanBeDone order.now.action }
     ensures { result ≤ 1 }
 {
+    let Some(name) = &order.input else {
+        return obey_to(rt, order, sources, input, output, errors);
+    };
+    match fs::open(rt, name.as_str()) {
+        Ok(mut file) => obey_to(rt, order, sources, &mut file, output, errors),
+        Err(error) => refuse_file(name.as_str(), &error, errors),
+    }
+}
+
+/// Does what was requested, with the file of the output in the place of `output` if there is one.
+fn obey_to<F: Files + AllocGlobal, R: Read, W: Write, E: Write>(
+    rt: &F,
+    order: &Order,
+    sources: &[Source],
+    input: &mut R,
+    output: &mut W,
+    errors: &mut E,
+) -> u8
+    requires { CanBeDone order.now.action }
+    ensures { result ≤ 1 }
+{
+    let Some(name) = &order.output else {
+        return obey(rt.alloc(), order, sources, input, output, errors);
+    };
+    match fs::create(rt, name.as_str()) {
+        Ok(mut file) => obey(rt.alloc(), order, sources, input, &mut file, errors),
+        Err(error) => refuse_file(name.as_str(), &error, errors),
+    }
+}
+
+/// Does what was requested with the modules of these files, from `input` to `output`, and returns the exit status, as
+/// `module_command` does.
+pub fn obey<R: Read, W: Write, E: Write>(
+    alloc: Global,
+    order: &Order,
+    sources: &[Source],
+    input: &mut R,
+    output: &mut W,
+    errors: &mut E,
+) -> u8
+    requires { CanBeDone order.now.action }
+    ensures status { result ≤ 1 }
+    ensures done { result ≡ 0 → HasDone order.now
+        (R.remaining input.old) (R.remaining input.new) (W.contents output.old) (W.contents output.new) }
+    ensures failed { result ≡ 1 → HasFailed order.now
+        (R.remaining input.old) (R.remaining input.new) (W.contents output.old) (W.contents output.new) }
+{
     match attempt(alloc, order, sources, input, output) {
         Ok(()) => 0,
         Err(stop) => refuse_stop(sources, stop, errors),
-    }
-}
-
-/// Why nothing more is done.
-#[derive(Drop)]
-enum Stop {
-    /// A module is wrong.
-    Module(ModuleError),
-    /// Messages are not translated.
-    Command(CommandError),
-}
-
-impl From<ModuleError> for Stop {
-    fn from(error: ModuleError) -> Self {
-        Stop::Module(error)
-    }
-}
-
-impl From<CommandError> for Stop {
-    fn from(error: CommandError) -> Self {
-        Stop::Command(error)
     }
 }
 
@@ -96,6 +128,11 @@ fn attempt<R: Read, W: Write>(
     output: &mut W,
 ) -> Result<(), Stop>
     requires { CanBeDone order.now.action }
+    ensures { MatchResult result
+        (λ _. HasDone order.now
+        (R.remaining input.old) (R.remaining input.new) (W.contents output.old) (W.contents output.new))
+        (StopsAt order.now
+        (R.remaining input.old) (R.remaining input.new) (W.contents output.old) (W.contents output.new)) }
 {
     let files = read_files(alloc, sources)?;
     match &order.type_name {
@@ -105,8 +142,10 @@ fn attempt<R: Read, W: Write>(
         }
         Some(name) => {
             let table = table_named(alloc, files.as_slice(), name.as_str(), order.additions)?;
-            act(alloc, &table, order.action, input, output)?;
-            Ok(())
+            match act(alloc, &table, order.action, input, output) {
+                Ok(()) => Ok(()),
+                Err(error) => Err(Stop::Command(error)),
+            }
         }
     }
 }
@@ -144,27 +183,44 @@ fn act<R: Read, W: Write>(
     output: &mut W,
 ) -> Result<(), CommandError>
     requires { CanBeDone action }
+    ensures { MatchResult result
+        (λ _. HasActed action (schema_in table.now)
+        (R.remaining input.old) (R.remaining input.new) (W.contents output.old) (W.contents output.new))
+        (StopsActing action (schema_in table.now)
+        (R.remaining input.old) (R.remaining input.new) (W.contents output.old) (W.contents output.new)) }
 {
     match action {
         Action::Translate(translation) => translate(alloc, table, translation, input, output),
         Action::Check {
             rules,
             is_hexadecimal,
-        } => {
-            let mut message = read_all(alloc, input)?;
-            if is_hexadecimal {
-                message = octets_of(alloc, message.as_slice())?;
-            }
-            check_canonical(Typed { alloc, table }, rules, message.as_slice())?;
-            write_all(b"canonical\n", output)?;
-            Ok(())
-        }
-        Action::Print => {
-            let text = print_type(alloc, &table.types, &table.names, table.place)?;
-            write_all(text.as_bytes(), output)?;
-            Ok(())
-        }
+        } => check(Typed { alloc, table }, rules, is_hexadecimal, input, output),
+        Action::Print => print(alloc, table, output),
     }
+}
+
+/// Says that a message, the whole input, is canonical.
+fn check<R: Read, W: Write>(
+    typed: Typed<'_>,
+    rules: Codec,
+    is_hexadecimal: bool,
+    input: &mut R,
+    output: &mut W,
+) -> Result<(), CommandError> {
+    let mut message = read_all(typed.alloc, input)?;
+    if is_hexadecimal {
+        message = octets_of(typed.alloc, message.as_slice())?;
+    }
+    check_canonical(typed, rules, message.as_slice())?;
+    write_all(b"canonical\n", output)?;
+    Ok(())
+}
+
+/// Prints a type.
+fn print<W: Write>(alloc: Global, table: &Table, output: &mut W) -> Result<(), CommandError> {
+    let text = print_type(alloc, &table.types, &table.names, table.place)?;
+    write_all(text.as_bytes(), output)?;
+    Ok(())
 }
 
 /// Why a file is not read.
@@ -208,12 +264,10 @@ fn source_of(alloc: Global, name: &str, text: Vec<u8>) -> io::Result<Source> {
     })
 }
 
-/// Reports a file that is not read, and returns the exit status.
-fn refuse_file<E: Write>(unread: &UnreadFile, errors: &mut E) -> u8
+/// Reports a file that is not read or written, and returns the exit status.
+fn refuse_file<E: Write>(name: &str, error: &io::Error, errors: &mut E) -> u8
     ensures { result ≡ 1 }
 {
-    let name = unread.name.as_str();
-    let error = &unread.error;
     let _ = writeln!(errors, "asn1_relay: {name}: {error}");
     1
 }

@@ -1,8 +1,7 @@
 //! Messages of a type of a table are translated from one form to another.
-ghost use Rattle.std.specs.Prelude.{◌≡◌, ◌≤◌, false, MatchResult, OnOk};
-ghost use Rattle.asn1_relay_core.specs.declared.codec.Codec.{Codec as Rules};
-ghost use Rattle.asn1_module_command.specs.Runs.{Does, IsBounded, StopsBy, WritesEncoding, schema_in};
-ghost use Rattle.asn1_module_command.specs.declared.order.Form.TheVariants as form;
+ghost use Rattle.std.specs.Prelude.{◌≤◌, MatchResult, OnOk};
+ghost use Rattle.asn1_module_command.specs.Runs.{Does, Encodes, HasTranslated, IsBounded, StopsBy, StopsTranslating};
+ghost use Rattle.asn1_module_command.specs.Runs.{WritesEncoding, schema_in};
 
 use crate::errors::CommandError;
 use crate::hexadecimal::{line_of, octets_of};
@@ -25,12 +24,10 @@ pub fn translate<R: Read, W: Write>(
     output: &mut W,
 ) -> Result<(), CommandError>
     requires { IsBounded translation.extent }
-    ensures translated { (from to : Rules) → translation.is_hexadecimal ≡ false
-        → translation.from ≡ form.Rules from → translation.to ≡ form.Rules to
-        → MatchResult result
-        (λ _. Does translation.extent (schema_in table.now) from to
+    ensures { MatchResult result
+        (λ _. HasTranslated translation (schema_in table.now)
         (R.remaining input.old) (R.remaining input.new) (W.contents output.old) (W.contents output.new))
-        (StopsBy translation.extent (schema_in table.now) from to
+        (StopsTranslating translation (schema_in table.now)
         (R.remaining input.old) (R.remaining input.new) (W.contents output.old) (W.contents output.new)) }
 {
     let typed = Typed { alloc, table };
@@ -74,23 +71,18 @@ fn translate_input<R: Read, W: Write>(
     output: &mut W,
 ) -> Result<(), CommandError>
     requires { IsBounded translation.extent }
-    ensures translated { (from to : Rules) → translation.from ≡ form.Rules from → translation.to ≡ form.Rules to
-        → MatchResult result
-        (λ _. Does translation.extent (schema_in typed.entry.table.now) from to
+    ensures { MatchResult result
+        (λ _. HasTranslated translation (schema_in typed.entry.table.now)
         (R.remaining input.old) (R.remaining input.new) (W.contents output.old) (W.contents output.new))
-        (StopsBy translation.extent (schema_in typed.entry.table.now) from to
+        (StopsTranslating translation (schema_in typed.entry.table.now)
         (R.remaining input.old) (R.remaining input.new) (W.contents output.old) (W.contents output.new)) }
 {
-    match (translation.from, translation.to) {
-        (Form::Rules(from), Form::Rules(to)) => recode_all(
-            typed,
-            translation.extent,
-            from,
-            to,
-            input,
-            output,
-        ),
-        _ => translate_values(typed, translation, input, output),
+    match translation.to {
+        Form::Json => write_texts(typed, translation, input, output),
+        Form::Rules(to) => match translation.from {
+            Form::Rules(from) => recode_all(typed, translation.extent, from, to, input, output),
+            Form::Json => encode_all(typed, translation, to, input, output),
+        },
     }
 }
 
@@ -173,22 +165,38 @@ fn recode_message<R: Read, W: Write>(
         output,
     ) {
         Ok(()) => Ok(()),
-        Err(fault) => Err(CommandError::Fault(fault)),
+        Err(fault) => Err(typed.explained(from, message.as_slice(), fault)),
     }
 }
 
-/// Translates where the input or the output is JSON.
-fn translate_values<R: Read, W: Write>(
+/// Translates to JSON.
+fn write_texts<R: Read, W: Write>(
     typed: Typed<'_>,
     translation: Translation,
     input: &mut R,
     output: &mut W,
 ) -> Result<(), CommandError> {
     match translation.extent {
-        Extent::Message => match (translation.from, translation.to) {
-            (Form::Json, Form::Rules(to)) => encode_message(typed, to, input, output),
-            _ => translate_value(typed, translation, input, output),
-        },
+        Extent::Message => write_text(typed, translation, input, output),
+        Extent::Stream { limit } => {
+            translate_joined(typed, translation, limit as usize, input, output)
+        }
+    }
+}
+
+/// Translates JSON to canonical encodings by these rules.
+fn encode_all<R: Read, W: Write>(
+    typed: Typed<'_>,
+    translation: Translation,
+    to: Codec,
+    input: &mut R,
+    output: &mut W,
+) -> Result<(), CommandError>
+    ensures { OnOk result (Encodes translation.extent (schema_in typed.entry.table.now) to
+        (W.contents output.old) (W.contents output.new)) }
+{
+    match translation.extent {
+        Extent::Message => encode_message(typed, to, input, output),
         Extent::Stream { limit } => {
             translate_joined(typed, translation, limit as usize, input, output)
         }
@@ -211,8 +219,8 @@ fn encode_message<R: Read, W: Write>(
     Ok(())
 }
 
-/// Translates one message, the whole input. Nothing is written before all of it is translated.
-fn translate_value<R: Read, W: Write>(
+/// Translates one message, the whole input, to JSON. Nothing is written before all of it is translated.
+fn write_text<R: Read, W: Write>(
     typed: Typed<'_>,
     translation: Translation,
     input: &mut R,
@@ -220,7 +228,7 @@ fn translate_value<R: Read, W: Write>(
 ) -> Result<(), CommandError> {
     let message = read_all(typed.alloc, input)?;
     let tape = typed.read(translation.from, message.as_slice())?;
-    let answer = typed.write(translation.to, translation.style, &tape)?;
-    write_all(answer.as_slice(), output)?;
+    let text = typed.write_text(translation.style, tape.as_slice())?;
+    write_all(text.as_slice(), output)?;
     Ok(())
 }

@@ -1,5 +1,5 @@
 //! Values of a type of a table are read and written in any form.
-ghost use Rattle.std.specs.Prelude.{IfOk};
+ghost use Rattle.std.specs.Prelude.{◌≡◌, IfOk};
 ghost use Rattle.asn1_table_building.specs.Built.{IsTapeOf};
 ghost use Rattle.asn1_relay_core.specs.Coding.{rules_of};
 ghost use Rattle.asn1_relay_core.specs.MessageTypes.{WrittenAs};
@@ -28,7 +28,10 @@ pub(crate) struct Typed<'a> {
 
 impl<'a> Typed<'a> {
     /// The type, as a relay takes it.
-    pub(crate) fn message_type(self) -> TableType<'a> {
+    pub(crate) fn message_type(self) -> TableType<'a>
+        ensures types { result.types.now ≡ self.entry.table.now.types }
+        ensures place { result.place ≡ self.entry.table.now.place }
+    {
         TableType {
             types: &self.table.types,
             place: self.table.place,
@@ -39,15 +42,16 @@ impl<'a> Typed<'a> {
     ///
     /// # Errors
     ///
-    /// `NotAnEncoding`, `SurplusOctets` or `Json` if the octets are no message of the type in this form; `OutOfMemory`.
+    /// `Located` or `Json` if the octets are no message of the type in this form; `OutOfMemory`.
     pub(crate) fn read(self, from: Form, message: &[u8]) -> Result<Vec<Event>, CommandError> {
         match from {
             Form::Rules(rules) => {
-                match self.message_type().read_front(self.alloc, rules, message) {
-                    Ok((tape, [])) => Ok(tape),
-                    Ok(_) => Err(CommandError::Fault(Fault::SurplusOctets)),
-                    Err(refusal) => Err(CommandError::Fault(read_fault(refusal.error))),
-                }
+                let fault = match self.message_type().read_front(self.alloc, rules, message) {
+                    Ok((tape, [])) => return Ok(tape),
+                    Ok(_) => Fault::SurplusOctets,
+                    Err(refusal) => read_fault(refusal.error),
+                };
+                Err(self.explained(rules, message, fault))
             }
             Form::Json => Ok(self.read_text(message)?),
         }
@@ -117,7 +121,7 @@ impl<'a> Typed<'a> {
     }
 
     /// The JSON of a value (X.697), and the end of a line.
-    fn write_text(self, style: Style, tape: &[Event]) -> Result<Vec<u8>, CommandError> {
+    pub(crate) fn write_text(self, style: Style, tape: &[Event]) -> Result<Vec<u8>, CommandError> {
         let table = self.table;
         let text = write_json(
             self.alloc,

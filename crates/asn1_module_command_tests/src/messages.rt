@@ -64,43 +64,73 @@ fn small_numbers(rt: HostRuntime) {
     assert!(rt; first_wrong(rt.alloc(), &SMALLS).is_none());
 }
 
-/// Words, the input, and the error.
-type Refused = (&'static [&'static str], &'static [u8], &'static str);
+/// Words, the module, the input, and the error.
+type Refused = (
+    &'static [&'static str],
+    &'static str,
+    &'static [u8],
+    &'static str,
+);
 
-const REFUSED: [Refused; 8] = [
-    (small!("coer", "uper"), b"", "asn1_relay: not an encoding\n"),
+const REFUSED: [Refused; 10] = [
     (
         small!("coer", "uper"),
+        SMALL,
+        b"",
+        "asn1_relay: not an encoding: octet 0: the input ends early\n",
+    ),
+    (
+        small!("coer", "uper"),
+        SMALL,
         b"\xFC\x00",
-        "asn1_relay: surplus octets\n",
+        "asn1_relay: surplus octets: from octet 1 on\n",
     ),
     (
         small!("coer", "json"),
+        SMALL,
         b"\x06",
-        "asn1_relay: not an encoding\n",
+        "asn1_relay: not an encoding: octet 0: a number is outside its value constraint\n",
     ),
     (
         small!("uper", "coer"),
+        SMALL,
         b"\xB0",
-        "asn1_relay: not an encoding\n",
+        "asn1_relay: not an encoding: octet 0, bit 0: a number is outside its value constraint\n",
     ),
     (
         small!("coer", "json"),
+        SMALL,
         b"\x05\x00",
-        "asn1_relay: surplus octets\n",
+        "asn1_relay: surplus octets: from octet 1 on\n",
+    ),
+    // Of the UPER octets above: the station takes bits 2 to 33, the kind 3 more, and `altitude` is there.
+    (
+        hexadecimal!("uper", "json"),
+        VEHICLE,
+        b"C004B5A1",
+        "asn1_relay: not an encoding: octet 0, bit 2, in station: the input ends early\n",
+    ),
+    (
+        hexadecimal!("uper", "coer"),
+        VEHICLE,
+        b"C004B5A1DE",
+        "asn1_relay: not an encoding: octet 4, bit 6, in position.latitude: the input ends early\n",
     ),
     (
         small!("json", "uper"),
+        SMALL,
         b"6",
         "asn1_relay: octet 0: the value is outside a constraint\n",
     ),
     (
         small!("json", "uper"),
+        SMALL,
         b"\xFF",
         "asn1_relay: octet 0: the text is not JSON\n",
     ),
     (
         small!("uper", "json", "--hex"),
+        SMALL,
         b"1",
         "asn1_relay: the input is not hexadecimal\n",
     ),
@@ -109,8 +139,8 @@ const REFUSED: [Refused; 8] = [
 /// The index of the first row whose input is not refused with its error.
 fn first_accepted(alloc: Global, rows: &[Refused]) -> Option<usize> {
     for index in 0..rows.len() {
-        let (words, input, said) = rows[index];
-        if !is_refused(alloc, words, SMALL, input, b"", said) {
+        let (words, module, input, said) = rows[index];
+        if !is_refused(alloc, words, module, input, b"", said) {
             return Some(index);
         }
     }
@@ -143,10 +173,16 @@ fn canonical_messages(rt: HostRuntime) {
 const NOT_CANONICAL: [Refused; 2] = [
     (
         check!("uper"),
+        SMALL,
         b"\x11",
-        "asn1_relay: not canonical from octet 0 on: padding bits are not zero\n",
+        "asn1_relay: not canonical from octet 0 on: octet 0, bit 4: padding bits are not zero\n",
     ),
-    (check!("uper"), b"\xB0", "asn1_relay: not an encoding\n"),
+    (
+        check!("uper"),
+        SMALL,
+        b"\xB0",
+        "asn1_relay: not an encoding: octet 0, bit 0: a number is outside its value constraint\n",
+    ),
 ];
 
 #[test]

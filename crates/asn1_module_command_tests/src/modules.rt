@@ -73,27 +73,41 @@ fn is_bad(alloc: Global, words: &[&str]) -> bool {
     }
 }
 
+/// A line with each option of a stream.
+const STREAM: [&str; 20] = [
+    "asn1_relay",
+    "stream",
+    "--module",
+    "a",
+    "--module",
+    "b",
+    "--type",
+    "M.T",
+    "--from",
+    "json",
+    "--to",
+    "aper-strict",
+    "--limit",
+    "9",
+    "--required-additions",
+    "--hex",
+    "--input",
+    "in",
+    "--output",
+    "out",
+];
+
+/// Whether an option has this value.
+fn has(option: &Option<String>, value: &str) -> bool {
+    match option {
+        Some(text) => text.as_str() == value,
+        None => false,
+    }
+}
+
 /// Whether a line with each option is understood.
 fn takes_options(alloc: Global) -> bool {
-    let words = [
-        "asn1_relay",
-        "stream",
-        "--module",
-        "a",
-        "--module",
-        "b",
-        "--type",
-        "M.T",
-        "--from",
-        "json",
-        "--to",
-        "aper-strict",
-        "--limit",
-        "9",
-        "--required-additions",
-        "--hex",
-    ];
-    let Ok(order) = read_order(alloc, &words) else {
+    let Ok(order) = read_order(alloc, &STREAM) else {
         return false;
     };
     let is_right = match order.action {
@@ -105,7 +119,11 @@ fn takes_options(alloc: Global) -> bool {
         }
         _ => false,
     };
-    is_right && order.modules.len() == 2 && order.additions == Additions::AreRequired
+    is_right
+        && order.modules.len() == 2
+        && order.additions == Additions::AreRequired
+        && has(&order.input, "in")
+        && has(&order.output, "out")
 }
 
 const LISTED: [Row; 1] = [(

@@ -46,7 +46,7 @@ const STOPPED: [Stopped; 4] = [
         words!("coer", "json"),
         b"\xFC\x06",
         b"-4\n",
-        "asn1_relay: message 1: no form\n",
+        "asn1_relay: message 1: no form: octet 0: a number is outside its value constraint\n",
     ),
     (
         words!("json", "coer"),
