@@ -127,7 +127,7 @@ pub record IsStoppedFor (a : Action) (unread unread' held held' : Known) (e : Co
   pub table : Table
   pub stops : StopsActing a (schema_in table) unread unread' held held' e
 
--- status 0: for the table that the modules became, what was requested of the type is done
+-- status 0: for a table of lawful types, what was requested of the type is done; which table is not said
 abbrev pub HasDone : Order → Known → Known → Known → Known → Type 0
 HasDone o unread unread' held held' = IsSome o.type_name → IsDoneFor o.action unread unread' held held'
 

@@ -11,6 +11,7 @@ use crate::values::Typed;
 use asn1_notation_types::Table;
 use asn1_relay_command::{Fault, read_all, translate_message, translate_stream, write_all};
 use asn1_relay_core::Codec;
+use asn1_table_relay::TableType;
 use std::alloc::Global;
 use std::io::{Read, Write};
 
@@ -123,15 +124,12 @@ fn recode_stream<R: Read, W: Write>(
         (StopsBy (Extent.Stream limit) (schema_in typed.entry.table.now) from to
         (R.remaining input.old) (R.remaining input.new) (W.contents output.old) (W.contents output.new)) }
 {
-    match translate_stream(
-        typed.alloc,
-        typed.message_type(),
-        from,
-        to,
-        limit,
-        input,
-        output,
-    ) {
+    let table = typed.table;
+    let message_type = TableType {
+        types: &table.types,
+        place: table.place,
+    };
+    match translate_stream(typed.alloc, message_type, from, to, limit, input, output) {
         Ok(()) => Ok(()),
         Err(fault) => Err(CommandError::Fault(Fault::from(fault))),
     }
@@ -151,7 +149,11 @@ fn recode_message<R: Read, W: Write>(
         (StopsBy Extent.Message (schema_in typed.entry.table.now) from to
         (R.remaining input.old) (R.remaining input.new) (W.contents output.old) (W.contents output.new)) }
 {
-    let message_type = typed.message_type();
+    let table = typed.table;
+    let message_type = TableType {
+        types: &table.types,
+        place: table.place,
+    };
     let mut message = Vec::new(typed.alloc);
     match translate_message(
         typed.alloc,

@@ -91,7 +91,12 @@ impl<'a> Typed<'a> {
             (StandsFor (schema_in self.entry.table.now)
             (records_of self.entry.table.now.types.nodes.items tape.now.items)) octets.items) }
     {
-        match self.message_type().write(self.alloc, rules, tape) {
+        let table = self.table;
+        let message_type = TableType {
+            types: &table.types,
+            place: table.place,
+        };
+        match message_type.write(self.alloc, rules, tape) {
             Ok(octets) => Ok(octets),
             Err(EncodeError::OutOfMemory) => Err(CommandError::Fault(Fault::OutOfMemory)),
             Err(_) => Err(CommandError::Fault(Fault::NoTargetEncoding)),
