@@ -61,8 +61,8 @@ pub(crate) fn table_named(
     }
     let problem = error.explained(files).to_string(alloc)?;
     match files.get(error.file) {
-        // The first lexical item of a file is no name of a type.
-        Some(syntax) if error.place > 0 => Err(ModuleError::Text {
+        // The first lexical item of the first file stands for a type that no module has.
+        Some(syntax) if error.place > 0 || error.file > 0 => Err(ModuleError::Text {
             file: error.file,
             offset: syntax.offset(error.place),
             problem,
