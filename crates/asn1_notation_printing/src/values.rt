@@ -21,7 +21,8 @@ pub fn write_default(
 ) -> Result<(), AllocError> {
     match value {
         DefaultValue::Simple(event) => write_value(text, labels, place, event),
-        DefaultValue::SequenceOf(elements) => {
+        DefaultValue::Components(_, _) => Ok(()),
+        DefaultValue::SetOf(elements) | DefaultValue::SequenceOf(elements) => {
             let element = elements_at(labels.types, place).unwrap_or(NO_TYPE);
             text.push('{')?;
             for index in 0..elements.len() {
@@ -30,13 +31,6 @@ pub fn write_default(
                 }
                 write_default(text, labels, element, &elements[index])?;
             }
-            text.push('}')
-        }
-        DefaultValue::SetOf(None) => text.push_str("{}"),
-        DefaultValue::SetOf(Some(value)) => {
-            let element = elements_at(labels.types, place).unwrap_or(NO_TYPE);
-            text.push('{')?;
-            write_default(text, labels, element, value)?;
             text.push('}')
         }
         DefaultValue::Choice(chosen, value) => {

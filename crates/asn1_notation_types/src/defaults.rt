@@ -47,15 +47,8 @@ pub(crate) fn default_of<'a>(
             Ok(DefaultValue::SequenceOf(elements))
         }
         TypeKind::SetOf(element) => {
-            let mut elements = elements_of(alloc, files, base, element, value)?;
-            let last = elements.pop();
-            if !elements.is_empty() {
-                return Err(value.error(files, Problem::UnsupportedDefault));
-            }
-            match last {
-                None => Ok(DefaultValue::SetOf(None)),
-                Some(last) => Ok(DefaultValue::SetOf(Some(Box::new(alloc, last)?))),
-            }
+            let elements = elements_of(alloc, files, base, element, value)?;
+            Ok(DefaultValue::SetOf(elements))
         }
         TypeKind::Choice(components) => chosen_of(alloc, files, base, components, value),
         _ => Ok(DefaultValue::Simple(event_of(alloc, files, base, value)?)),

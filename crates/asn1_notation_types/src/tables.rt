@@ -133,6 +133,9 @@ fn refused(
 ) -> NotationError {
     match error {
         TableError::OutOfMemory => NotationError::new(Problem::OutOfMemory),
+        TableError::DefaultNotNormal { place } => {
+            problem_at(alloc, files, origins, place, Problem::DefaultOutside)
+        }
         TableError::Unlawful { place, flaw } => {
             problem_at(alloc, files, origins, place, Problem::Unlawful(flaw))
         }
