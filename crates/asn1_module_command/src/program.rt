@@ -142,7 +142,7 @@ fn attempt<R: Read, W: Write>(
             Ok(())
         }
         Some(name) => {
-            let table = table_named(alloc, files.as_slice(), name.as_str(), order.additions)?;
+            let table = table_named(alloc, files.as_slice(), name.as_str(), order.options)?;
             match act(alloc, &table, order.action, input, output) {
                 Ok(()) => Ok(()),
                 Err(error) => Err(Stop::Command(error)),

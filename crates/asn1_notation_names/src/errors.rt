@@ -37,9 +37,15 @@ pub enum Problem {
     /// Other actual parameters than those of the definition, or none of them (X.683 9.5).
     #[error("the actual parameters are not those of the definition")]
     Parameters,
-    /// A set, a class or an object as a parameter (X.683 9.5).
-    #[error("a set, a class or an object as a parameter is not supported")]
+    /// A set of values, or a class, as a parameter (X.683 9.5).
+    #[error("a set of values or a class as a parameter is not supported")]
     ParameterKind,
+    /// No information object class has this name (X.681 9.2).
+    #[error("no such information object class")]
+    UnknownClass,
+    /// The class has no field of this name (X.681 9.4).
+    #[error("the class has no such field")]
+    UnknownField,
     /// More parameterised types with their actual parameters than are followed.
     #[error("there are more than 4096 parameterised types with other actual parameters")]
     TooManyInstances,

@@ -15,6 +15,8 @@ const MOST_INSTANCES: usize = 4_096;
 pub enum Given {
     Type(TypeUse),
     Value(ValueUse),
+    /// An information object, or a set of them. It is not kept: types do not depend on it.
+    Objects,
 }
 
 /// What an actual parameter is, however it is written; or the parameterised assignment, before them.
@@ -28,6 +30,8 @@ pub enum Key {
     Value(ValueUse),
     /// A number.
     Number(i128),
+    /// Any information objects.
+    Objects,
 }
 
 /// A parameterised assignment with actual parameters.

@@ -1,6 +1,7 @@
 //! What the names and values of modules in the notation of X.680 stand for, and what is wrong with them.
 #![tactic(auto, using(std::proofs::lemmas::Grind::common_steps))]
 
+mod classes;
 mod distinct;
 mod errors;
 mod identifiers;
@@ -11,6 +12,7 @@ mod references;
 mod scopes;
 mod suggestions;
 
+pub use classes::type_of_field;
 pub use distinct::NameSet;
 pub use errors::{Explained, Near, NotationError, Problem};
 pub use identifiers::arcs_of;

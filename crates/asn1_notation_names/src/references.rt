@@ -1,4 +1,5 @@
 //! What references to types stand for (X.680 14.1, X.683 9).
+use crate::classes::class_named;
 use crate::errors::{NotationError, Problem};
 use crate::instances::{Given, Key, given_for, instance_with, value_key};
 use crate::numbers::{ValueUse, may_be};
@@ -89,7 +90,10 @@ fn instance_of(
     let mut keys = Vec::new(files.alloc);
     keys.push(Key::Definition(symbol))?;
     for (parameter, actual) in parameters.iter().zip(&reference.parameters) {
-        let one = given_by(files, scope, place, parameter, actual)?;
+        let one = match class_of(files, symbol.scope, parameter)? {
+            Some(_) => objects_by(scope, place, parameter, actual)?,
+            None => given_by(files, scope, place, parameter, actual)?,
+        };
         check_governor(files, symbol.scope, parameter, one)?;
         keys.push(key_of(files, one, levels - 1)?)?;
         given.push(one)?;
@@ -101,6 +105,7 @@ fn instance_of(
 #[cycle(types)]
 fn key_of(files: &mut Files<'_, '_>, given: Given, levels: u32) -> Result<Key, NotationError> {
     match given {
+        Given::Objects => Ok(Key::Objects),
         Given::Value(value) => Ok(value_key(files, value)),
         Given::Type(at) => Ok(Key::Type(type_key(files, at, levels)?)),
     }
@@ -128,6 +133,42 @@ fn type_key(
     Err(start.scope.error(place, Problem::Circular))
 }
 
+/// The class that governs a parameter of an assignment in a module, if one does (X.683 8.3).
+fn class_of(
+    files: &Files<'_, '_>,
+    scope: Scope,
+    parameter: &Parameter,
+) -> Result<Option<Symbol>, NotationError> {
+    let Some(index) = parameter.governor else {
+        return Ok(None);
+    };
+    match &files.type_term(TypeUse { scope, index })?.kind {
+        TypeKind::Reference(reference) => class_named(files, scope, reference, Problem::UnknownType),
+        _ => Ok(None),
+    }
+}
+
+/// What is given for a parameter that a class governs: objects in braces, or the name of an object if the parameter has
+/// a name with a small letter (X.683 9.5).
+fn objects_by(
+    scope: Scope,
+    place: usize,
+    parameter: &Parameter,
+    actual: &ActualParameter,
+) -> Result<Given, NotationError> {
+    match actual {
+        ActualParameter::Braces(_) => Ok(Given::Objects),
+        ActualParameter::Value(_) if has_small_letter(parameter) => Ok(Given::Objects),
+        _ => Err(scope.error(place, Problem::Parameters)),
+    }
+}
+
+/// Whether the name of a parameter begins with a small letter, as those of values and objects do.
+fn has_small_letter(parameter: &Parameter) -> bool {
+    let first = parameter.name.text.as_bytes().first();
+    first.is_some_and(|letter| letter.is_ascii_lowercase())
+}
+
 /// What is given for a parameter: a type, or a value if the parameter has a governor and a name with a small letter
 /// (X.683 8.2). A parameter of the assignment around it is what is given for that.
 fn given_by(
@@ -137,8 +178,7 @@ fn given_by(
     parameter: &Parameter,
     actual: &ActualParameter,
 ) -> Result<Given, NotationError> {
-    let first = parameter.name.text.as_bytes().first();
-    let has_small_letter = first.is_some_and(|letter| letter.is_ascii_lowercase());
+    let has_small_letter = has_small_letter(parameter);
     match actual {
         ActualParameter::Braces(place) => Err(scope.error(*place, Problem::ParameterKind)),
         ActualParameter::Type(index) if parameter.governor.is_none() => {

@@ -8,7 +8,7 @@ use std::alloc::Global;
 /// The table of the type T of the modules of a text.
 pub fn table(alloc: Global, text: &str) -> Option<Table> {
     let files = [read_syntax(alloc, text.as_bytes()).ok()?];
-    table_of(alloc, &files, None, "T", Additions::MayBeAbsent).ok()
+    table_of(alloc, &files, None, "T", Additions::MayBeAbsent.into()).ok()
 }
 
 /// The table of the first type of a text.
@@ -22,7 +22,7 @@ pub fn first_table(alloc: Global, text: &str) -> Option<Table> {
         .name
         .text
         .as_str();
-    table_of(alloc, &files, None, name, Additions::AreRequired).ok()
+    table_of(alloc, &files, None, name, Additions::AreRequired.into()).ok()
 }
 
 /// The type of a table as text.

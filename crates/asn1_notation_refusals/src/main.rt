@@ -94,7 +94,7 @@ fn said(alloc: Global, text: &str) -> Result<String, AllocError> {
         }
     };
     let files = [syntax];
-    match table_of(alloc, &files, None, "T", Additions::AreRequired) {
+    match table_of(alloc, &files, None, "T", Additions::AreRequired.into()) {
         Ok(_table) => String::from_str(alloc, "nothing"),
         Err(error) => {
             let at = place_of(files[0].offset(error.place));

@@ -1,6 +1,8 @@
 //! What a type is after its references and tags.
-use asn1_notation_names::{Files, NotationError, Problem, Scope, Symbol, TypeUse, referenced};
-use asn1_notation_tree::{ConstraintIndex, Tagging, TaggingMode, TypeKind, TypeTerm};
+use asn1_notation_names::{
+    Files, NotationError, Problem, Scope, Symbol, TypeUse, referenced, type_of_field,
+};
+use asn1_notation_tree::{ConstraintIndex, Tagging, TaggingMode, TypeKind, TypeTerm, UnsupportedType};
 use std::alloc::Global;
 
 /// How many references and tags are followed from a type to its kind.
@@ -72,7 +74,21 @@ fn check_implicit(kind: &TypeKind, error: Option<NotationError>) -> Result<(), N
     }
 }
 
-/// A type without its references and tags (X.680 14.1 and 31). The last tag may not be IMPLICIT before a CHOICE
+/// The type of the values of a field of a class (X.681 14), if the kind is one and it is no open type.
+fn field_type(
+    files: &Files<'_, '_>,
+    scope: Scope,
+    kind: &TypeKind,
+) -> Result<Option<TypeUse>, NotationError> {
+    match kind {
+        TypeKind::Unsupported(UnsupportedType::Field(class, names)) => {
+            type_of_field(files, scope, class, names.as_slice())
+        }
+        _ => Ok(None),
+    }
+}
+
+/// A type without its references and tags (X.680 14.1 and 31, X.681 14). The last tag may not be IMPLICIT before a CHOICE
 /// (X.680 31.2.9).
 pub fn base_of<'a>(
     alloc: Global,
@@ -98,17 +114,20 @@ pub fn base_of<'a>(
             TypeKind::Reference(reference) => {
                 (symbol, at) = referenced(files, at.scope, reference, MOST_LEVELS)?;
             }
-            kind => {
-                check_implicit(kind, implicit)?;
-                return Ok(Base {
-                    at,
-                    term,
-                    symbol,
-                    tag,
-                    constraints,
-                    outer,
-                });
-            }
+            kind => match field_type(files, at.scope, kind)? {
+                Some(next) => (symbol, at) = (None, next),
+                None => {
+                    check_implicit(kind, implicit)?;
+                    return Ok(Base {
+                        at,
+                        term,
+                        symbol,
+                        tag,
+                        constraints,
+                        outer,
+                    });
+                }
+            },
         }
     }
     let place = files.type_term(start)?.place;

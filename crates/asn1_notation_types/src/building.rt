@@ -1,6 +1,6 @@
 //! The nodes of a table (X.680 18 to 41).
 use crate::defaults::{default_of, fixed_size};
-use crate::tables::Additions;
+use crate::tables::{Additions, OpenTypes, TableOptions};
 use asn1_notation_components::{
     Part, Parts, TaggedPart, alternatives_of, check_sequence, check_set, ordered, parts_of,
     tags_of_part,
@@ -11,9 +11,9 @@ use asn1_notation_resolving::{
 };
 use asn1_notation_tree::{
     Components, Element, Enumeration, NamedNumber, Presence as WrittenPresence, StringName,
-    TypeKind,
+    TypeKind, UnsupportedType,
 };
-use asn1_schema_constraints::Sizes;
+use asn1_schema_constraints::{Bounded, Sizes};
 use asn1_schema_tags::Tag;
 use asn1_table_names::{NamedNumber as NumberName, TypeNames};
 use asn1_table_types::{
@@ -24,6 +24,12 @@ use asn1_values_integers::Integer;
 use std::alloc::Global;
 use std::collections::{BTreeMap, BTreeSet};
 use std::mem;
+
+/// All sizes.
+const ANY_SIZE: Sizes = Sizes {
+    root: Bounded::None,
+    is_extensible: false,
+};
 
 /// An index outside each table, where a type without values is.
 const NO_TYPE: usize = usize::MAX;
@@ -60,7 +66,7 @@ impl Origin {
 pub(crate) struct Building<'a, 'i> {
     alloc: Global,
     pub(crate) files: Files<'a, 'i>,
-    additions: Additions,
+    options: TableOptions,
     pub(crate) nodes: Vec<TypeNode>,
     pub(crate) names: Vec<TypeNames>,
     pub(crate) origins: Vec<Origin>,
@@ -73,12 +79,12 @@ impl<'a, 'i> Building<'a, 'i> {
     pub(crate) fn new(
         alloc: Global,
         files: Files<'a, 'i>,
-        additions: Additions,
+        options: TableOptions,
     ) -> Building<'a, 'i> {
         Building {
             alloc,
             files,
-            additions,
+            options,
             nodes: Vec::new(alloc),
             names: Vec::new(alloc),
             origins: Vec::new(alloc),
@@ -90,7 +96,7 @@ impl<'a, 'i> Building<'a, 'i> {
     /// outside the table.
     pub(crate) fn place_of(&mut self, at: TypeUse) -> Result<usize, NotationError> {
         let base = base_of(self.alloc, &mut self.files, at)?;
-        if matches!(base.term.kind, TypeKind::Unsupported(_)) {
+        if !self.has_values(&base.term.kind) {
             return Ok(NO_TYPE);
         }
         let key = if base.outer == 0 { base.at } else { at };
@@ -100,6 +106,17 @@ impl<'a, 'i> Building<'a, 'i> {
         let place = self.add(TypeNode::Null, self.names_of(&base)?, Origin::Type(at))?;
         self.places.insert(key, place)?;
         Ok(place)
+    }
+
+    /// Whether tables hold a type of this kind.
+    fn has_values(&self, kind: &TypeKind) -> bool {
+        match kind {
+            TypeKind::Unsupported(UnsupportedType::Field(..)) => {
+                self.options.open_types == OpenTypes::AreOctets
+            }
+            TypeKind::Unsupported(_) => false,
+            _ => true,
+        }
     }
 
     /// The names of a type, as far as its reference gives them.
@@ -198,6 +215,10 @@ impl<'a, 'i> Building<'a, 'i> {
                 Ok(TypeNode::Set(self.components(base, components, true, names)?))
             }
             TypeKind::Choice(components) => self.choice(base, components, names),
+            // An open type, whose constraints say nothing of its octets.
+            TypeKind::Unsupported(UnsupportedType::Field(..)) => {
+                Ok(TypeNode::OctetString(ANY_SIZE))
+            }
             TypeKind::Tagged(..) | TypeKind::Reference(_) | TypeKind::Unsupported(_) => {
                 Err(base.error(Problem::UnsupportedType))
             }
@@ -342,7 +363,7 @@ impl<'a, 'i> Building<'a, 'i> {
         tags: Vec<Tag>,
         is_added: bool,
     ) -> Result<Component, NotationError> {
-        let may_be_absent = is_added && matches!(self.additions, Additions::MayBeAbsent);
+        let may_be_absent = is_added && self.options.additions == Additions::MayBeAbsent;
         let presence = match part.presence {
             WrittenPresence::Required if may_be_absent => Presence::Optional,
             WrittenPresence::Required => Presence::Required,

@@ -7,4 +7,4 @@ mod endless;
 mod tables;
 
 pub use asn1_notation_resolving::{Explained, Near, NotationError, Problem};
-pub use tables::{Additions, Table, table_of};
+pub use tables::{Additions, OpenTypes, Table, TableOptions, table_of};

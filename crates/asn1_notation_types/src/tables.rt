@@ -18,6 +18,35 @@ pub enum Additions {
     AreRequired,
 }
 
+/// What becomes of an open type (X.681 14.2).
+#[derive(Clone, Copy, Debug, PartialEq, Eq)]
+pub enum OpenTypes {
+    /// It has no values: only messages in which it is absent are translated.
+    AreRefused,
+    /// Its value is the octets of the encoding in it, which no translation changes: an OCTET STRING, which has the same
+    /// encoding in all rules (X.691 11.2, X.696 30).
+    AreOctets,
+}
+
+/// How modules are understood.
+#[derive(Clone, Copy, Debug, PartialEq, Eq)]
+pub struct TableOptions {
+    /// Whether additions may be absent.
+    pub additions: Additions,
+    /// What becomes of open types.
+    pub open_types: OpenTypes,
+}
+
+impl From<Additions> for TableOptions {
+    /// Open types are refused.
+    fn from(additions: Additions) -> Self {
+        TableOptions {
+            additions,
+            open_types: OpenTypes::AreRefused,
+        }
+    }
+}
+
 /// A type and all types that it leads to.
 #[derive(Drop)]
 pub struct Table {
@@ -40,13 +69,13 @@ pub fn table_of(
     files: &[Syntax],
     module: Option<&str>,
     name: &str,
-    additions: Additions,
+    options: TableOptions,
 ) -> Result<Table, NotationError>
     ensures file { IfErr result (λ e. 0 < length files.now → e.file < length files.now) }
     ensures place { IfErr result (λ e. IfSome (slice_get files.now e.file)
         (λ f. e.place ≤ length f.items.list.items)) }
 {
-    match built(alloc, files, module, name, additions) {
+    match built(alloc, files, module, name, options) {
         Ok(table) => Ok(table),
         Err(error) => Err(located(files, error)),
     }
@@ -77,14 +106,14 @@ fn built(
     files: &[Syntax],
     module: Option<&str>,
     name: &str,
-    additions: Additions,
+    options: TableOptions,
 ) -> Result<Table, NotationError> {
     let index = Index::new(alloc, files)?;
     index.check_names(files)?;
     let files = Files::new(alloc, files, &index);
     let symbol = files.find_type(module, name)?;
     let at = type_of_symbol(&files, symbol)?;
-    let mut building = Building::new(alloc, files, additions);
+    let mut building = Building::new(alloc, files, options);
     let place = building.place_of(at)?;
     building.build_all()?;
     building.set_name(place, symbol)?;

@@ -120,7 +120,7 @@ fn syntax_of(alloc: Global, assignments: &str) -> Option<Syntax> {
 /// Whether the table of T is refused so.
 fn is_refused(alloc: Global, files: &[Syntax], problem: Problem, offset: usize) -> bool {
     match (
-        table_of(alloc, files, Some("M"), "T", Additions::AreRequired),
+        table_of(alloc, files, Some("M"), "T", Additions::AreRequired.into()),
         files.first(),
     ) {
         (Err(error), Some(syntax)) => {

@@ -135,7 +135,7 @@ fn syntax_of(alloc: Global, tags: &str, assignments: &str) -> Option<Syntax> {
 
 /// Whether the table of T has these types.
 fn is_table(alloc: Global, files: &[Syntax], wanted: &str) -> bool {
-    let Ok(table) = table_of(alloc, files, None, "T", Additions::MayBeAbsent) else {
+    let Ok(table) = table_of(alloc, files, None, "T", Additions::MayBeAbsent.into()) else {
         return false;
     };
     let is_described = match described(alloc, table.types.nodes()) {

@@ -102,7 +102,7 @@ impl Assignments {
             files,
             Some(module),
             name,
-            Additions::AreRequired,
+            Additions::AreRequired.into(),
         ) {
             Ok(table) => Ok(table),
             Err(error) => {
