@@ -2,7 +2,7 @@
 use crate::constraints::{is_newline, write_character, write_quoted};
 use crate::labels::Labels;
 use asn1_table_json_writing::number_text;
-use asn1_table_names::alternative_of;
+use asn1_table_names::{Part, alternative_of, component_at};
 use asn1_table_tape::elements_at;
 use asn1_table_types::{DefaultValue, Event, StringKind, TypeNode};
 use asn1_values_bit_strings::BitString;
@@ -13,6 +13,7 @@ use std::str;
 const NO_TYPE: usize = usize::MAX;
 
 /// The default of a component of the type at an index.
+#[cycle(values)]
 pub fn write_default(
     text: &mut String,
     labels: Labels<'_>,
@@ -21,18 +22,10 @@ pub fn write_default(
 ) -> Result<(), AllocError> {
     match value {
         DefaultValue::Simple(event) => write_value(text, labels, place, event),
-        DefaultValue::Components(_, _) => Ok(()),
-        DefaultValue::SetOf(elements) | DefaultValue::SequenceOf(elements) => {
-            let element = elements_at(labels.types, place).unwrap_or(NO_TYPE);
-            text.push('{')?;
-            for index in 0..elements.len() {
-                if index > 0 {
-                    text.push_str(", ")?;
-                }
-                write_default(text, labels, element, &elements[index])?;
-            }
-            text.push('}')
+        DefaultValue::SequenceOf(elements) => {
+            write_elements(text, labels, place, elements.as_slice())
         }
+        DefaultValue::SetOf(elements) => write_elements(text, labels, place, elements.as_slice()),
         DefaultValue::Choice(chosen, value) => {
             labels.write_alternative(text, place, *chosen)?;
             text.push_str(" : ")?;
@@ -42,6 +35,110 @@ pub fn write_default(
             };
             write_default(text, labels, alternative, value)
         }
+        DefaultValue::Components(root, additions) => {
+            write_components(text, labels, place, root.as_slice(), additions.as_slice())
+        }
+    }
+}
+
+/// The elements of a value of the SEQUENCE OF or SET OF at an index, in braces (X.680 26.3 and 28.3).
+#[cycle(values)]
+fn write_elements(
+    text: &mut String,
+    labels: Labels<'_>,
+    place: usize,
+    elements: &[DefaultValue],
+) -> Result<(), AllocError> {
+    let element = elements_at(labels.types, place).unwrap_or(NO_TYPE);
+    text.push('{')?;
+    for index in 0..elements.len() {
+        if index > 0 {
+            text.push_str(", ")?;
+        }
+        write_default(text, labels, element, &elements[index])?;
+    }
+    text.push('}')
+}
+
+/// The components of a value of the SEQUENCE or SET at an index, in braces (X.680 25.18 and 27.8).
+#[cycle(values)]
+fn write_components(
+    text: &mut String,
+    labels: Labels<'_>,
+    place: usize,
+    root: &[Option<DefaultValue>],
+    additions: &[Option<DefaultValue>],
+) -> Result<(), AllocError> {
+    text.push('{')?;
+    let begin = text.len();
+    for index in 0..root.len() {
+        if let Some(value) = &root[index] {
+            write_component(text, labels, place, Part::Root(index), value, begin)?;
+        }
+    }
+    for index in 0..additions.len() {
+        if let Some(value) = &additions[index] {
+            write_addition(text, labels, place, index, value, begin)?;
+        }
+    }
+    text.push('}')
+}
+
+/// The value of the addition at an index. That of a group has the values of its components, which are written alone.
+#[cycle(values)]
+fn write_addition(
+    text: &mut String,
+    labels: Labels<'_>,
+    place: usize,
+    addition: usize,
+    value: &DefaultValue,
+    begin: usize,
+) -> Result<(), AllocError> {
+    let part = Part::Addition(addition);
+    match value {
+        DefaultValue::Components(components, _) if is_group(labels, place, addition) => {
+            for index in 0..components.len() {
+                if let Some(value) = &components[index] {
+                    let part = Part::Grouped {
+                        addition,
+                        component: index,
+                    };
+                    write_component(text, labels, place, part, value, begin)?;
+                }
+            }
+            Ok(())
+        }
+        _ => write_component(text, labels, place, part, value, begin),
+    }
+}
+
+/// The name of a component and its value, after a comma unless the text ends where the components begin.
+#[cycle(values)]
+fn write_component(
+    text: &mut String,
+    labels: Labels<'_>,
+    place: usize,
+    part: Part,
+    value: &DefaultValue,
+    begin: usize,
+) -> Result<(), AllocError> {
+    if text.len() > begin {
+        text.push_str(", ")?;
+    }
+    labels.write_part(text, place, part)?;
+    text.push(' ')?;
+    let component = match component_at(labels.types, place, part) {
+        Some(component) => component.place,
+        None => NO_TYPE,
+    };
+    write_default(text, labels, component, value)
+}
+
+/// Whether an addition of the SEQUENCE or SET at an index is a group.
+fn is_group(labels: Labels<'_>, place: usize, addition: usize) -> bool {
+    match component_at(labels.types, place, Part::Addition(addition)) {
+        Some(component) => matches!(labels.types.node(component.place), Some(TypeNode::Group(_))),
+        None => false,
     }
 }
 

@@ -162,11 +162,11 @@ fn refused(
 ) -> NotationError {
     match error {
         TableError::OutOfMemory => NotationError::new(Problem::OutOfMemory),
-        TableError::DefaultNotNormal { place } => {
-            problem_at(alloc, files, origins, place, Problem::DefaultOutside)
-        }
         TableError::Unlawful { place, flaw } => {
             problem_at(alloc, files, origins, place, Problem::Unlawful(flaw))
+        }
+        TableError::DefaultNotNormal { place } => {
+            problem_at(alloc, files, origins, place, Problem::UnsupportedDefault)
         }
     }
 }
