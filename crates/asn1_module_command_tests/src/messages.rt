@@ -109,8 +109,16 @@ const CONTAINERS: [Row; 4] = [
 #[test]
 fn open_types(rt: HostRuntime) {
     assert!(rt; first_wrong(rt.alloc(), &CONTAINERS).is_none());
-    assert!(rt; is_refused(rt.alloc(), container!("aper", "coer"), CONTAINER, b"2000010180", b"",
-        "asn1_relay: not an encoding: octet 3, in fields[0].value: this type has no values\n"));
+    assert!(rt;
+        is_refused(
+            rt.alloc(),
+            container!("aper", "coer"),
+            CONTAINER,
+            b"2000010180",
+            b"",
+            "asn1_relay: not an encoding: octet 3, in fields[0].value: this type has no values\n"
+        )
+    );
 }
 
 /// Words, the module, the input, and the error.

@@ -47,7 +47,10 @@ pub fn referenced(
 ) -> Result<ValueUse, NotationError> {
     match given_for(files, scope, module, name) {
         Some(Given::Value(at)) => return Ok(at),
-        Some(Given::Type(_) | Given::Objects) => return Err(scope.error(name.place, Problem::UnknownValue)),
+        Some(Given::Type(_) | Given::Objects) => return Err(scope.error(
+            name.place,
+            Problem::UnknownValue,
+        )),
         None => {}
     }
     let symbol = files.find(scope, module, name, Problem::UnknownValue)?;

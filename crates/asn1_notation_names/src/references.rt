@@ -143,7 +143,12 @@ fn class_of(
         return Ok(None);
     };
     match &files.type_term(TypeUse { scope, index })?.kind {
-        TypeKind::Reference(reference) => class_named(files, scope, reference, Problem::UnknownType),
+        TypeKind::Reference(reference) => class_named(
+            files,
+            scope,
+            reference,
+            Problem::UnknownType,
+        ),
         _ => Ok(None),
     }
 }

@@ -2,7 +2,9 @@
 use asn1_notation_names::{
     Files, NotationError, Problem, Scope, Symbol, TypeUse, referenced, type_of_field,
 };
-use asn1_notation_tree::{ConstraintIndex, Tagging, TaggingMode, TypeKind, TypeTerm, UnsupportedType};
+use asn1_notation_tree::{
+    ConstraintIndex, Tagging, TaggingMode, TypeKind, TypeTerm, UnsupportedType,
+};
 use std::alloc::Global;
 
 /// How many references and tags are followed from a type to its kind.
