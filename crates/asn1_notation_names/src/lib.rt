@@ -14,7 +14,6 @@ mod suggestions;
 pub use distinct::NameSet;
 pub use errors::{Explained, Near, NotationError, Problem};
 pub use identifiers::arcs_of;
-pub use instances::{Given, Instance, Key};
 pub use items::{Numbered, Numbers, numbers_of};
 pub use numbers::{ValueUse, integer_of, item_of, may_be, number_of, settled};
 pub use references::{referenced, type_of_symbol};
