@@ -20,7 +20,11 @@ impl TagSet {
         }
     }
 
-    /// Adds tags of a part, or refuses it where one is there already.
+    /// Adds tags of a part.
+    ///
+    /// # Errors
+    ///
+    /// `TagTwice` at the part, if one is there already.
     pub fn add(&mut self, scope: Scope, part: Part<'_>, tags: &[Tag]) -> Result<(), NotationError> {
         for tag in tags {
             if !self.tags.insert(*tag)? {
@@ -40,6 +44,10 @@ impl TagSet {
 }
 
 /// Refuses a component of a SET that has the tag of another one (X.680 27.3).
+///
+/// # Errors
+///
+/// `TagTwice` at the second of them. Those of `tagged_base` and `parts_of`.
 pub fn check_set(
     alloc: Global,
     files: &mut Files<'_, '_>,
@@ -58,6 +66,10 @@ pub fn check_set(
 
 /// Refuses a component of a SEQUENCE that has the tag of one before it, if all between may be absent (X.680 25.6).
 /// For the root components after additions all of these may be absent.
+///
+/// # Errors
+///
+/// `TagTwice` at the second of them. Those of `tagged_base` and `parts_of`.
 pub fn check_sequence(
     alloc: Global,
     files: &mut Files<'_, '_>,
@@ -72,7 +84,7 @@ pub fn check_sequence(
     }
     let mut later = Run::new(alloc, parts.scope);
     if parts.first < parts.root.len() {
-        later.note_all(&run)?;
+        later.note_all(run.tags.as_slice())?;
         for part in &parts.additions {
             later.note(files, *part)?;
         }
@@ -126,15 +138,13 @@ impl Run {
     /// Adds a component that may have a tag of another one.
     fn note(&mut self, files: &mut Files<'_, '_>, part: Part<'_>) -> Result<(), NotationError> {
         let tags = possible_tags(self.alloc, files, part)?;
-        self.taken.note(tags.as_slice())?;
-        self.tags.extend_from_slice(tags.as_slice())?;
-        Ok(())
+        self.note_all(tags.as_slice())
     }
 
-    /// Adds the components of another run.
-    fn note_all(&mut self, other: &Run) -> Result<(), NotationError> {
-        self.taken.note(other.tags.as_slice())?;
-        self.tags.extend_from_slice(other.tags.as_slice())?;
+    /// Adds tags that others may have.
+    fn note_all(&mut self, tags: &[Tag]) -> Result<(), NotationError> {
+        self.taken.note(tags)?;
+        self.tags.extend_from_slice(tags)?;
         Ok(())
     }
 }

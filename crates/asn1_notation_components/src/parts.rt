@@ -12,7 +12,7 @@ use asn1_notation_tree::{
     Addition, Component, Components, Name, Presence, TagDefault as WrittenTagDefault, TypeKind,
 };
 use asn1_schema_tags::{Chosen, Tag};
-use std::alloc::{AllocError, Global};
+use std::alloc::Global;
 use std::slice;
 
 /// How many levels of COMPONENTS OF are followed.
@@ -21,8 +21,11 @@ const MOST_LEVELS: u32 = 16;
 /// A component or an alternative.
 #[derive(Clone, Copy)]
 pub struct Part<'a> {
+    /// Its name.
     pub name: &'a Name,
+    /// Its type.
     pub at: TypeUse,
+    /// Whether it may be absent.
     pub presence: Presence,
     /// The index among the additions of the version brackets around it, if it is in some.
     pub group: Option<usize>,
@@ -35,10 +38,13 @@ pub struct Part<'a> {
 pub struct Parts<'a> {
     /// The module of the type.
     pub scope: Scope,
+    /// The root components or alternatives.
     pub root: Vec<Part<'a>>,
     /// How many of them are before the additions.
     pub first: usize,
+    /// Whether there is an extension marker, also where only its module implies one.
     pub is_extensible: bool,
+    /// The added ones.
     pub additions: Vec<Part<'a>>,
     /// The tags of all parts, if they get automatic ones (X.680 25.9, 27.1 and 29.3).
     automatic: Option<Vec<Tag>>,
@@ -157,15 +163,14 @@ impl<'a> Gathering<'a> {
         group: Option<usize>,
         levels: u32,
     ) -> Result<(), NotationError> {
-        let place = files.type_term(at)?.place;
         if levels == 0 {
-            return Err(at.scope.error(place, Problem::TooDeep));
+            return Err(at.error(files, Problem::TooDeep));
         }
         let base = base_of(self.alloc, files, at)?;
         let components = match &base.term.kind {
             TypeKind::Sequence(components) if !self.is_set => components,
             TypeKind::Set(components) if self.is_set => components,
-            _ => return Err(at.scope.error(place, Problem::ComponentsOfOther)),
+            _ => return Err(at.error(files, Problem::ComponentsOfOther)),
         };
         let scope = base.at.scope;
         let below = levels - 1;
@@ -300,6 +305,11 @@ fn check_names(
 }
 
 /// The parts of a type that is written in a module.
+///
+/// # Errors
+///
+/// At a part, `NameTwice` and `MisplacedTag`. `VersionNumber` at the version of a group, or at its brackets. After
+/// COMPONENTS OF, `ComponentsOfOther` and `TooDeep` at the type. Those of `base_of` and `number_of`.
 pub fn parts_of<'a>(
     alloc: Global,
     files: &mut Files<'a, '_>,
@@ -358,12 +368,16 @@ fn tags_from_zero(
         are_added.push(true)?;
     }
     automatic_tags(alloc, are_added.as_slice()).map_err(|error| match error {
-        TaggingError::OutOfMemory => scope.error(0, Problem::OutOfMemory),
+        TaggingError::OutOfMemory => NotationError::new(Problem::OutOfMemory),
         TaggingError::TooManyComponents => scope.error(0, Problem::TagOutOfRange),
     })
 }
 
 /// The indices of parts in the order of their tags (X.680 8.6).
+///
+/// # Errors
+///
+/// `TagTwice` at the second part of two with one tag.
 pub fn ordered(
     alloc: Global,
     scope: Scope,
@@ -371,26 +385,31 @@ pub fn ordered(
     tags: &[Tag],
 ) -> Result<Vec<usize>, NotationError> {
     canonical_order(alloc, tags).map_err(|error| match error {
-        OrderError::OutOfMemory => NotationError::from(AllocError),
-        OrderError::TagTwice { first: _, second } => match parts.get(second) {
-            Some(part) => scope.error(part.place, Problem::TagTwice),
-            None => NotationError::from(AllocError),
-        },
+        OrderError::OutOfMemory => NotationError::new(Problem::OutOfMemory),
+        OrderError::TagTwice { first: _, second } => {
+            let place = parts.get(second).map_or(0, |part| part.place);
+            scope.error(place, Problem::TagTwice)
+        }
     })
 }
 
 /// An alternative, and its tag.
 #[derive(Clone, Copy)]
 pub struct TaggedPart<'a> {
+    /// The alternative.
     pub part: Part<'a>,
+    /// Its tag.
     pub tag: Tag,
 }
 
 /// The alternatives of a CHOICE: the root ones in the order of their tags (X.680 8.6), and the added ones.
 #[derive(Drop)]
 pub struct Alternatives<'a> {
+    /// The root ones, their tags ascending.
     pub root: Vec<TaggedPart<'a>>,
+    /// Whether there is an extension marker.
     pub is_extensible: bool,
+    /// The added ones, in the order of the text.
     pub additions: Vec<TaggedPart<'a>>,
 }
 
@@ -433,6 +452,11 @@ fn tagged_alternative<'a>(
 }
 
 /// The alternatives of a CHOICE that is written in a module.
+///
+/// # Errors
+///
+/// At an alternative, `TagTwice` where another one has its tag, `UntaggedAlternative` where it is a CHOICE without a
+/// tag, and `UnsupportedType` where it has no tag. Those of `parts_of` and `tagged_base`.
 pub fn alternatives_of<'a>(
     alloc: Global,
     files: &mut Files<'a, '_>,
@@ -484,6 +508,10 @@ fn tagged_alternatives<'a>(
 
 /// The tags with which a component may begin: an automatic one, its own, or those of all alternatives of an untagged
 /// CHOICE, those of the root in order.
+///
+/// # Errors
+///
+/// `UnsupportedType` at the component, if it has no tag. Those of `tagged_base` and `alternatives_of`.
 pub fn tags_of_part(
     alloc: Global,
     files: &mut Files<'_, '_>,
@@ -516,6 +544,10 @@ pub fn tags_of_part(
 
 /// The tags with which a component may begin, if it gets no automatic one, in any order; none where these are not
 /// known, as for an open type.
+///
+/// # Errors
+///
+/// Those of `tagged_base` and `alternatives_of`.
 pub fn possible_tags(
     alloc: Global,
     files: &mut Files<'_, '_>,

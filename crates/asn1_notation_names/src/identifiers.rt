@@ -62,6 +62,11 @@ struct Arcs<'a, 'i, 'f> {
 }
 
 /// The arcs of an object identifier (X.680 32.3).
+///
+/// # Errors
+///
+/// Those of `settled`. `ArcOutOfRange` at a number that is no arc, `ValueOfOtherType` at a value that is no object
+/// identifier and no arc, and `Circular` at a name after 64 object identifiers, each the beginning of the one before.
 pub fn arcs_of(
     alloc: Global,
     files: &Files<'_, '_>,

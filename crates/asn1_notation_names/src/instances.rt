@@ -13,7 +13,9 @@ const MOST_INSTANCES: usize = 4_096;
 /// What is given for a parameter (X.683 9.5).
 #[derive(Clone, Copy)]
 pub enum Given {
+    /// A type.
     Type(TypeUse),
+    /// A value.
     Value(ValueUse),
     /// An information object, or a set of them. It is not kept: types do not depend on it.
     Objects,
@@ -81,6 +83,10 @@ pub fn given_for(
 
 /// The index of a parameterised assignment with actual parameters, which is new if their keys are met for the first
 /// time. It is used at a lexical item of a module.
+///
+/// # Errors
+///
+/// At that item, `TooDeep` where it is used in 64 others, and `TooManyInstances` where there are 4,096.
 pub fn instance_with(
     files: &mut Files<'_, '_>,
     scope: Scope,

@@ -10,26 +10,25 @@ use std::alloc::Global;
 /// An item with its number.
 #[derive(Clone, Copy)]
 pub struct Numbered<'a> {
+    /// Its name.
     pub name: &'a Name,
+    /// Its number.
     pub number: isize,
 }
 
-/// The items of an ENUMERATED with their numbers: the root ones by their numbers, and the added ones.
+/// The items of an ENUMERATED with their numbers.
 #[derive(Drop)]
 pub struct Numbers<'a> {
+    /// The root items, their numbers ascending.
     pub root: Vec<Numbered<'a>>,
+    /// The added items, in the order of the text, which is that of their numbers.
     pub additions: Vec<Numbered<'a>>,
 }
 
 impl Numbers<'_> {
     /// The number of the item with a name.
     pub fn find(&self, name: &str) -> Option<isize> {
-        for item in &self.root {
-            if item.name.text.as_str() == name {
-                return Some(item.number);
-            }
-        }
-        for item in &self.additions {
+        for item in self.root.iter().chain(&self.additions) {
             if item.name.text.as_str() == name {
                 return Some(item.number);
             }
@@ -71,7 +70,7 @@ fn all_given(
 /// An error at the item that it names.
 fn item_error(scope: Scope, items: &[EnumerationItem], error: ItemError) -> NotationError {
     match error {
-        ItemError::OutOfMemory => scope.error(0, Problem::OutOfMemory),
+        ItemError::OutOfMemory => NotationError::new(Problem::OutOfMemory),
         ItemError::Flawed { index, flaw } => {
             let place = match items.get(index) {
                 Some(item) => item.name.place,
@@ -106,16 +105,17 @@ fn joined<'a>(
 /// Refuses items of which two have one name (X.680 20.2).
 fn check_names(alloc: Global, scope: Scope, items: &Enumeration) -> Result<(), NotationError> {
     let mut names = NameSet::new(alloc);
-    for item in &items.root {
-        names.add(scope, item.name.place, &item.name)?;
-    }
-    for item in &items.additions {
+    for item in items.root.iter().chain(&items.additions) {
         names.add(scope, item.name.place, &item.name)?;
     }
     Ok(())
 }
 
 /// All items with their numbers (X.680 20).
+///
+/// # Errors
+///
+/// At the name of an item, `NameTwice`, `NumberTwice`, `ItemOrder` and `ItemNumber`. Those of `number_of`.
 pub fn numbers_of<'a>(
     alloc: Global,
     files: &Files<'_, '_>,

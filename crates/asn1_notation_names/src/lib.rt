@@ -16,7 +16,6 @@ pub use classes::type_of_field;
 pub use distinct::NameSet;
 pub use errors::{Explained, Near, NotationError, Problem};
 pub use identifiers::arcs_of;
-pub use instances::{Given, Instance, Key};
 pub use items::{Numbered, Numbers, numbers_of};
 pub use numbers::{ValueUse, integer_of, item_of, may_be, number_of, settled};
 pub use references::{referenced, type_of_symbol};

@@ -1,4 +1,6 @@
 //! Numbers and items, by themselves or by name.
+ghost use Rattle.std.specs.Prelude.{◌≡◌};
+
 use crate::errors::{NotationError, Problem};
 use crate::instances::{Given, given_for};
 use crate::items::Numbers;
@@ -13,13 +15,18 @@ const MOST_STEPS: usize = 64;
 /// A value, and the module in which it is written.
 #[derive(Clone, Copy, PartialEq, Eq, PartialOrd, Ord)]
 pub struct ValueUse {
+    /// The module.
     pub scope: Scope,
+    /// The index of its term.
     pub index: ValueIndex,
 }
 
 impl ValueUse {
-    /// An error at the value.
-    pub fn error(self, files: &Files<'_, '_>, problem: Problem) -> NotationError {
+    /// An error at the value; at the first lexical item of its file, if there is no such value.
+    pub fn error(self, files: &Files<'_, '_>, problem: Problem) -> NotationError
+        ensures file { result.file ≡ self.scope.file }
+        ensures problem { result.problem ≡ problem }
+    {
         let place = match files.value_term(self.scope, self.index) {
             Ok(term) => term.place,
             Err(_) => 0,
@@ -39,6 +46,11 @@ pub fn named<'a>(numbers: &'a [NamedNumber], name: &str) -> Option<&'a NamedNumb
 }
 
 /// The value that a name stands for (X.680 17.5, X.683 8.4), after the name of its module if that is given.
+///
+/// # Errors
+///
+/// Those of `Files::find`. At the name, `UnknownValue` where it is no value's, and `Parameterised` where the value has
+/// parameters. Those of `check_governor`.
 pub fn referenced(
     files: &Files<'_, '_>,
     scope: Scope,
@@ -54,29 +66,26 @@ pub fn referenced(
         None => {}
     }
     let symbol = files.find(scope, module, name, Problem::UnknownValue)?;
-    let at = value_of_symbol(files, symbol).map_err(|problem| scope.error(name.place, problem))?;
-    check_governor(files, symbol, at)?;
+    let defined = defined_value(files, symbol);
+    let (governor, at) = defined.map_err(|problem| scope.error(name.place, problem))?;
+    check_governor(files, governor, at)?;
     Ok(at)
 }
 
-/// Refuses the value of an assignment whose type cannot have one in this notation (X.680 16.2).
-fn check_governor(
+/// Refuses a value in a notation that values of its governor, the type of an assignment or of a parameter, do not have
+/// (X.680 16.2, X.683 9.6).
+///
+/// # Errors
+///
+/// `ValueOfOtherType` at the value.
+pub fn check_governor(
     files: &Files<'_, '_>,
-    symbol: Symbol,
+    governor: TypeUse,
     value: ValueUse,
 ) -> Result<(), NotationError> {
-    let Some(assignment) = files.assignment(symbol) else {
-        return Ok(());
-    };
-    let AssignmentKind::Value(index, _) = &assignment.kind else {
-        return Ok(());
-    };
-    let governor = files.type_term(TypeUse {
-        scope: symbol.scope,
-        index: *index,
-    })?;
+    let kind = &files.type_term(governor)?.kind;
     let term = files.value_term(value.scope, value.index)?;
-    if may_be(&governor.kind, &term.kind) {
+    if may_be(kind, &term.kind) {
         return Ok(());
     }
     Err(value.scope.error(term.place, Problem::ValueOfOtherType))
@@ -124,24 +133,37 @@ fn next_of(
     referenced(files, scope, reference.module.as_ref(), &reference.name)
 }
 
-/// The value that an assignment defines.
-fn value_of_symbol(files: &Files<'_, '_>, symbol: Symbol) -> Result<ValueUse, Problem> {
+/// The value that an assignment defines, after its type.
+fn defined_value(files: &Files<'_, '_>, symbol: Symbol) -> Result<(TypeUse, ValueUse), Problem> {
     let Some(assignment) = files.assignment(symbol) else {
         return Err(Problem::UnknownValue);
     };
+    let scope = symbol.scope;
     match &assignment.kind {
         AssignmentKind::Value(..) if !assignment.parameters.is_empty() => {
             Err(Problem::Parameterised)
         }
-        AssignmentKind::Value(_, index) => Ok(ValueUse {
-            scope: symbol.scope,
-            index: *index,
-        }),
+        AssignmentKind::Value(governor, value) => Ok((
+            TypeUse {
+                scope,
+                index: *governor,
+            },
+            ValueUse {
+                scope,
+                index: *value,
+            },
+        )),
         _ => Err(Problem::UnknownValue),
     }
 }
 
-/// A value after its references (X.680 17.5).
+/// A value after its references (X.680 17.5), at most 64.
+///
+/// # Errors
+///
+/// `Circular` at the value, if there are more. At the name of one of them, those of `Files::find`, `UnknownValue` where
+/// it is no value's, and `Parameterised` where it has parameters. `ValueOfOtherType` at a value that the type of its
+/// assignment does not have.
 pub fn settled(files: &Files<'_, '_>, start: ValueUse) -> Result<ValueUse, NotationError> {
     let mut at = start;
     for _ in 0..MOST_STEPS {
@@ -154,6 +176,10 @@ pub fn settled(files: &Files<'_, '_>, start: ValueUse) -> Result<ValueUse, Notat
 }
 
 /// A number, by itself or by the name of a value (X.680 19.9).
+///
+/// # Errors
+///
+/// Those of `settled`, and `ValueOfOtherType` at the value if it is no number.
 pub fn number_of(files: &Files<'_, '_>, start: ValueUse) -> Result<i128, NotationError> {
     let at = settled(files, start)?;
     match files.value_term(at.scope, at.index)?.kind {
@@ -164,6 +190,10 @@ pub fn number_of(files: &Files<'_, '_>, start: ValueUse) -> Result<i128, Notatio
 
 /// A number of an INTEGER, by itself, by one of its own names, or by the name of a value (X.680 19.9 and 19.10). The
 /// names are those of a module.
+///
+/// # Errors
+///
+/// Those of `settled`, and `ValueOfOtherType` at the value if it is no number.
 pub fn integer_of(
     files: &Files<'_, '_>,
     names: Scope,
@@ -189,6 +219,10 @@ pub fn integer_of(
 }
 
 /// The number of an item of an ENUMERATED, by its name or by that of a value (X.680 20.8).
+///
+/// # Errors
+///
+/// Those of `settled`, and `ValueOfOtherType` at the value if it is no item.
 pub fn item_of(
     files: &Files<'_, '_>,
     items: &Numbers<'_>,

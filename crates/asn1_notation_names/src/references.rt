@@ -2,7 +2,7 @@
 use crate::classes::class_named;
 use crate::errors::{NotationError, Problem};
 use crate::instances::{Given, Key, given_for, instance_with, value_key};
-use crate::numbers::{ValueUse, may_be};
+use crate::numbers::{ValueUse, check_governor};
 use crate::scopes::{Files, Scope, Symbol, TypeUse};
 use asn1_notation_tree::{
     ActualParameter, AssignmentKind, Parameter, Reference, TypeKind, ValueKind,
@@ -13,6 +13,13 @@ const MOST_STEPS: usize = 64;
 
 /// The type that a reference stands for, and its assignment if it has one. Actual parameters are followed in this many
 /// levels.
+///
+/// # Errors
+///
+/// Those of `Files::find`. At the name, `UnknownType` where it is no type's, `Parameters` where the actual parameters
+/// are not those of the definition, `ParameterKind` where one is no type and no value, `TooDeep` and
+/// `TooManyInstances`. At an actual parameter, `ParameterKind` and `Circular`; `ValueOfOtherType` where its governor
+/// does not have it.
 #[cycle(types)]
 pub fn referenced(
     files: &mut Files<'_, '_>,
@@ -94,7 +101,10 @@ fn instance_of(
             Some(_) => objects_by(scope, place, parameter, actual)?,
             None => given_by(files, scope, place, parameter, actual)?,
         };
-        check_governor(files, symbol.scope, parameter, one)?;
+        if let (Given::Value(value), Some(index)) = (one, parameter.governor) {
+            let scope = symbol.scope;
+            check_governor(files, TypeUse { scope, index }, value)?;
+        }
         keys.push(key_of(files, one, levels - 1)?)?;
         given.push(one)?;
     }
@@ -129,8 +139,7 @@ fn type_key(
             _ => return Ok(at),
         }
     }
-    let place = files.type_term(start)?.place;
-    Err(start.scope.error(place, Problem::Circular))
+    Err(start.error(files, Problem::Circular))
 }
 
 /// The class that governs a parameter of an assignment in a module, if one does (X.683 8.3).
@@ -199,25 +208,6 @@ fn given_by(
         }
         _ => Err(scope.error(place, Problem::Parameters)),
     }
-}
-
-/// Refuses a value that is given for a parameter and is of another type than its governor (X.683 9.6), which is written
-/// in a module.
-fn check_governor(
-    files: &Files<'_, '_>,
-    scope: Scope,
-    parameter: &Parameter,
-    given: Given,
-) -> Result<(), NotationError> {
-    let (Given::Value(value), Some(index)) = (given, parameter.governor) else {
-        return Ok(());
-    };
-    let governor = files.type_term(TypeUse { scope, index })?;
-    let term = files.value_term(value.scope, value.index)?;
-    if may_be(&governor.kind, &term.kind) {
-        return Ok(());
-    }
-    Err(value.error(files, Problem::ValueOfOtherType))
 }
 
 /// A type that is given for a parameter. It may not be a class.

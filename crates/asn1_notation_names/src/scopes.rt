@@ -17,7 +17,9 @@ use std::collections::BTreeMap;
 /// parameters.
 #[derive(Clone, Copy, Debug, PartialEq, Eq, PartialOrd, Ord)]
 pub struct Scope {
+    /// The index of the file.
     pub file: usize,
+    /// The index of the module in it.
     pub module: usize,
     /// The index of the parameterised assignment with its actual parameters.
     pub instance: Option<usize>,
@@ -66,15 +68,33 @@ impl Scope {
 /// An assignment: its module, and its index there.
 #[derive(Clone, Copy, PartialEq, Eq, PartialOrd, Ord)]
 pub struct Symbol {
+    /// The module.
     pub scope: Scope,
+    /// The index in `Module::assignments`.
     pub index: usize,
 }
 
 /// A type as it is written in a module.
 #[derive(Clone, Copy, PartialEq, Eq, PartialOrd, Ord)]
 pub struct TypeUse {
+    /// The module.
     pub scope: Scope,
+    /// The index of its term.
     pub index: TypeIndex,
+}
+
+impl TypeUse {
+    /// An error at the type; at the first lexical item of its file, if there is no such type.
+    pub fn error(self, files: &Files<'_, '_>, problem: Problem) -> NotationError
+        ensures file { result.file ≡ self.scope.file }
+        ensures problem { result.problem ≡ problem }
+    {
+        let place = match files.type_term(self) {
+            Ok(term) => term.place,
+            Err(_) => 0,
+        };
+        self.scope.error(place, problem)
+    }
 }
 
 /// A name, the module in which it is, and what it stands for there.
@@ -99,7 +119,11 @@ pub struct Index<'a> {
 }
 
 impl<'a> Index<'a> {
-    /// The names of files.
+    /// The names of files. Time is that of sorting them.
+    ///
+    /// # Errors
+    ///
+    /// Memory ran out.
     pub fn new(alloc: Global, files: &'a [Syntax]) -> Result<Index<'a>, AllocError> {
         let mut all = Index {
             modules: Vec::new(alloc),
@@ -157,6 +181,10 @@ impl<'a> Index<'a> {
 
     /// Refuses a name that two assignments of a module have, and one that two modules have of which one has no object
     /// identifier (X.680 13.3 and 13.4).
+    ///
+    /// # Errors
+    ///
+    /// `NameTwice` at the second of them.
     pub fn check_names(&self, files: &[Syntax]) -> Result<(), NotationError> {
         for pair in self.modules.windows(2) {
             let [first, second] = pair else {
@@ -227,12 +255,14 @@ fn entry_in<'a>(entries: &[Entry<'a>], name: &str, scope: Scope) -> Option<Entry
 /// The files of a table, their names, and the parameterised assignments that are used.
 #[derive(Drop)]
 pub struct Files<'a, 'i> {
+    /// Where memory is taken.
     pub alloc: Global,
+    /// The files.
     pub files: &'a [Syntax],
     index: &'i Index<'a>,
-    pub instances: Vec<Instance>,
+    pub(crate) instances: Vec<Instance>,
     /// The index of each, by what identifies it.
-    pub known_instances: BTreeMap<Vec<Key>, usize>,
+    pub(crate) known_instances: BTreeMap<Vec<Key>, usize>,
 }
 
 impl<'a, 'i> Files<'a, 'i> {
@@ -247,17 +277,21 @@ impl<'a, 'i> Files<'a, 'i> {
         }
     }
 
-    /// A module.
+    /// A module, if the files have it.
     pub fn module(&self, scope: Scope) -> Option<&'a Module> {
         module_in(self.files, scope)
     }
 
-    /// An assignment.
+    /// An assignment, if the files have it.
     pub fn assignment(&self, symbol: Symbol) -> Option<&'a Assignment> {
         self.module(symbol.scope)?.assignments.get(symbol.index)
     }
 
-    /// A type term.
+    /// The term of a type.
+    ///
+    /// # Errors
+    ///
+    /// `UnknownType` at the first lexical item of the file, if there is no such term.
     pub fn type_term(&self, at: TypeUse) -> Result<&'a TypeTerm, NotationError> {
         let found = match self.files.get(at.scope.file) {
             Some(file) => file.types.get(at.index),
@@ -266,7 +300,11 @@ impl<'a, 'i> Files<'a, 'i> {
         found.ok_or(at.scope.error(0, Problem::UnknownType))
     }
 
-    /// A value term.
+    /// The term of a value of a module.
+    ///
+    /// # Errors
+    ///
+    /// `UnknownValue` at the first lexical item of the file, if there is no such term.
     pub fn value_term(
         &self,
         scope: Scope,
@@ -279,7 +317,11 @@ impl<'a, 'i> Files<'a, 'i> {
         found.ok_or(scope.error(0, Problem::UnknownValue))
     }
 
-    /// A constraint term.
+    /// The term of a constraint of a module.
+    ///
+    /// # Errors
+    ///
+    /// `UnsupportedConstraint` at the first lexical item of the file, if there is no such term.
     pub fn constraint_term(
         &self,
         scope: Scope,
@@ -293,13 +335,13 @@ impl<'a, 'i> Files<'a, 'i> {
     }
 
     /// The first module with a name.
-    pub fn find_module(&self, name: &str) -> Option<Scope> {
+    pub(crate) fn find_module(&self, name: &str) -> Option<Scope> {
         let entry = first_from(self.index.modules.as_slice(), name, FIRST)?;
         Some(entry.scope)
     }
 
     /// The assignment in a module that defines a name.
-    pub fn find_in(&self, scope: Scope, name: &str) -> Option<Symbol> {
+    pub(crate) fn find_in(&self, scope: Scope, name: &str) -> Option<Symbol> {
         let scope = scope.outside();
         let entry = entry_in(self.index.defined.as_slice(), name, scope)?;
         Some(Symbol {
@@ -337,7 +379,7 @@ impl<'a, 'i> Files<'a, 'i> {
 
     /// What a name in a module stands for: an assignment of the module itself, or of one from which it imports the
     /// name, through at most 64 modules.
-    pub fn find_symbol(&self, scope: Scope, name: &str) -> Option<Symbol> {
+    pub(crate) fn find_symbol(&self, scope: Scope, name: &str) -> Option<Symbol> {
         let mut scope = scope;
         for _ in 0..MOST_MODULES {
             if let Some(found) = self.find_in(scope, name) {
@@ -358,7 +400,7 @@ impl<'a, 'i> Files<'a, 'i> {
     ///
     /// `UnknownModule` at the name of a module that is not among the files, there or in an IMPORTS. `NotExported`, or
     /// the problem that is given if nothing has the name: at it, or where it is imported.
-    pub fn find(
+    pub(crate) fn find(
         &self,
         scope: Scope,
         module: Option<&Name>,

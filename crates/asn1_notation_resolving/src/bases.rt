@@ -1,4 +1,6 @@
 //! What a type is after its references and tags.
+ghost use Rattle.std.specs.Prelude.{◌≡◌};
+
 use asn1_notation_names::{
     Files, NotationError, Problem, Scope, Symbol, TypeUse, referenced, type_of_field,
 };
@@ -16,7 +18,9 @@ const MOST_LEVELS: u32 = 64;
 /// A constraint, and the module in which it is written.
 #[derive(Clone, Copy)]
 pub struct ConstraintUse {
+    /// The module.
     pub scope: Scope,
+    /// The index of its term.
     pub index: ConstraintIndex,
 }
 
@@ -39,7 +43,11 @@ pub struct Base<'a> {
 
 impl Base<'_> {
     /// An error where the kind is written.
-    pub fn error(&self, problem: Problem) -> NotationError {
+    pub fn error(&self, problem: Problem) -> NotationError
+        ensures file { result.file ≡ self.now.at.scope.file }
+        ensures place { result.place ≡ self.now.term.now.place }
+        ensures problem { result.problem ≡ problem }
+    {
         self.at.scope.error(self.term.place, problem)
     }
 }
@@ -92,6 +100,11 @@ fn field_type(
 
 /// A type without its references and tags (X.680 14.1 and 31, X.681 14). The last tag may not be IMPLICIT before a CHOICE
 /// (X.680 31.2.9).
+///
+/// # Errors
+///
+/// Those of a reference to a type (`referenced`). `ImplicitChoice` at such a tag, and `Circular` at the type after 64
+/// references and tags.
 pub fn base_of<'a>(
     alloc: Global,
     files: &mut Files<'a, '_>,
@@ -132,6 +145,5 @@ pub fn base_of<'a>(
             },
         }
     }
-    let place = files.type_term(start)?.place;
-    Err(start.scope.error(place, Problem::Circular))
+    Err(start.error(files, Problem::Circular))
 }

@@ -21,6 +21,11 @@ enum Subject {
 
 /// Refuses constraints that types of this kind cannot have (X.680 51.1), and single values of other types. Those of
 /// INTEGER, of SIZE and of FROM are looked at where their limits are.
+///
+/// # Errors
+///
+/// `ConstraintOfOther` at the constraint, `ValueOfOtherType` at the value. Those of `numbers_of`, `item_of` and
+/// `settled`.
 pub fn check_kinds(
     alloc: Global,
     files: &Files<'_, '_>,

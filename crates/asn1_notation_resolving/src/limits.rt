@@ -8,16 +8,21 @@ use asn1_schema_constraints::{Bounded, Sizes};
 use asn1_table_types::{CharacterTable, NumberLimits, StringKind};
 use std::alloc::{AllocError, Global};
 
-/// What is wrong with bounds.
-fn problem_of(error: BoundsError) -> Problem {
+/// An error of the bounds of a type.
+fn bounds_error(base: &Base<'_>, error: BoundsError) -> NotationError {
     match error {
-        BoundsError::Empty => Problem::EmptyConstraint,
-        BoundsError::TooLarge => Problem::SizeOutOfRange,
-        BoundsError::OutOfMemory => Problem::OutOfMemory,
+        BoundsError::Empty => base.error(Problem::EmptyConstraint),
+        BoundsError::TooLarge => base.error(Problem::SizeOutOfRange),
+        BoundsError::OutOfMemory => NotationError::new(Problem::OutOfMemory),
     }
 }
 
 /// The value constraint of an INTEGER (X.691 10.3), if it has one.
+///
+/// # Errors
+///
+/// `OutsideParent` at a value that the type before the constraint does not have, `EmptyConstraint` at a constraint
+/// after which no value is left. `TooDeep` at a constraint in 64 others. Those of `integer_of` and `base_of`.
 pub fn number_limits(
     alloc: Global,
     files: &mut Files<'_, '_>,
@@ -34,11 +39,15 @@ pub fn number_limits(
             root: limits.root,
             is_extensible: limits.is_extensible,
         })),
-        Err(error) => Err(base.error(problem_of(error))),
+        Err(error) => Err(bounds_error(base, error)),
     }
 }
 
-/// The sizes of a string or list (X.691 10.3).
+/// The sizes of a string or list (X.691 10.3): the numbers of its bits, octets, characters or elements.
+///
+/// # Errors
+///
+/// `SizeOutOfRange` at a size above 2^64 - 1. Those of `number_limits`.
 pub fn sizes(
     alloc: Global,
     files: &mut Files<'_, '_>,
@@ -56,7 +65,7 @@ pub fn sizes(
             is_extensible: false,
         });
     };
-    size_limits(alloc, &visible).map_err(|error| base.error(problem_of(error)))
+    size_limits(alloc, &visible).map_err(|error| bounds_error(base, error))
 }
 
 /// The characters of a kind of string as intervals, if its permitted alphabet counts in PER (X.691 30.1).
@@ -98,6 +107,12 @@ fn own_characters(alloc: Global, kind: StringKind) -> Result<Option<NumberSet>, 
 
 /// The permitted alphabet of a character string (X.680 51.7), if it has one that counts: its characters that are also
 /// characters of the kind.
+///
+/// # Errors
+///
+/// `EmptyConstraint` at the type, if there are none. `OutsideParent` at a character that the type before the constraint
+/// does not have, `ValueOfOtherType` at a value that is no text, or at an end of a range that is not one character.
+/// `TooDeep` at a constraint in 64 others. Those of `settled` and `base_of`.
 pub fn alphabet(
     alloc: Global,
     files: &mut Files<'_, '_>,
@@ -129,6 +144,10 @@ pub fn alphabet(
 
 /// Whether a string of a kind may have characters, and its permitted alphabet has them unless it has an extension
 /// marker.
+///
+/// # Errors
+///
+/// Those of `alphabet`.
 pub fn permits(
     alloc: Global,
     files: &mut Files<'_, '_>,

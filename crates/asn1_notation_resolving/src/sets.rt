@@ -30,6 +30,11 @@ pub enum Aspect {
 
 /// What PER and OER see of the constraints of a type, applied one after the other (X.680 50.8); none if they see none.
 /// Constraints of another aspect do not count.
+///
+/// # Errors
+///
+/// `TooDeep` at a constraint in 64 others, `ValueOfOtherType` at a value that is no text or no single character. Those
+/// of `integer_of`, `settled` and `base_of`.
 pub fn visible(
     alloc: Global,
     files: &mut Files<'_, '_>,
@@ -37,18 +42,21 @@ pub fn visible(
     aspect: Aspect,
 ) -> Result<Option<Visible>, NotationError> {
     let mut terms = Terms::new(alloc, base);
-    let roots = terms.add_all(files, base.constraints.as_slice(), aspect, MOST_LEVELS)?;
-    let place = base.term.place;
+    let roots = terms.add_all(files, base.constraints.as_slice(), Sought::of(aspect))?;
     match effective(alloc, terms.terms.as_slice(), roots.as_slice()) {
         Ok(visible) if visible.is_visible => Ok(Some(visible)),
         Ok(_) => Ok(None),
-        Err(_) => Err(base.at.scope.error(place, Problem::OutOfMemory)),
+        Err(_) => Err(NotationError::new(Problem::OutOfMemory)),
     }
 }
 
 /// Refuses a constraint with a value that the type before it does not have (X.680 51.2 and 51.4), and one after which
 /// no value is left. The numbers, sizes or characters of the type without constraints are given. A type whose last
 /// constraint has an extension marker may have all of them.
+///
+/// # Errors
+///
+/// `OutsideParent` or `SizeOutOfRange` at the value, `EmptyConstraint` at the constraint. Those of `visible`.
 pub fn check_values(
     alloc: Global,
     files: &mut Files<'_, '_>,
@@ -62,19 +70,19 @@ pub fn check_values(
     for back in 0..count {
         let ConstraintUse { scope, index } = base.constraints[count - 1 - back];
         let mut terms = Terms::new(alloc, base);
-        let Some(root) = terms.add_constraint(files, scope, index, aspect, MOST_LEVELS)? else {
+        let Some(root) = terms.add_constraint(files, scope, index, Sought::of(aspect))? else {
             continue;
         };
         if !is_extensible {
             terms.check_written(files, aspect, &parent)?;
         }
-        let place = files.constraint_term(scope, index)?.place;
         let Ok(seen) = effective(alloc, terms.terms.as_slice(), &[root]) else {
-            return Err(scope.error(place, Problem::OutOfMemory));
+            return Err(NotationError::new(Problem::OutOfMemory));
         };
         parent = parent.intersection(alloc, &seen.numbers)?;
         is_extensible = seen.is_extensible;
         if parent.hull().is_none() {
+            let place = files.constraint_term(scope, index)?.place;
             return Err(scope.error(place, Problem::EmptyConstraint));
         }
     }
@@ -90,6 +98,33 @@ pub fn has_number(set: &NumberSet, number: i128) -> bool {
     set.intervals()
         .iter()
         .any(|interval| interval.meet(one).has_number())
+}
+
+/// What is looked for in a constraint, and in how many levels of constraints.
+#[derive(Clone, Copy)]
+struct Sought {
+    aspect: Aspect,
+    levels: u32,
+}
+
+impl Sought {
+    /// The aspect of a whole constraint.
+    fn of(aspect: Aspect) -> Self {
+        Sought {
+            aspect,
+            levels: MOST_LEVELS,
+        }
+    }
+
+    /// Another aspect at the same level.
+    fn with(self, aspect: Aspect) -> Self
+        ensures { result.levels ≡ self.levels }
+    {
+        Sought {
+            aspect,
+            levels: self.levels,
+        }
+    }
 }
 
 /// A number or character that is written in a constraint.
@@ -159,20 +194,12 @@ impl<'a> Terms<'a> {
         &mut self,
         files: &mut Files<'_, '_>,
         constraints: &[ConstraintUse],
-        aspect: Aspect,
-        levels: u32,
+        sought: Sought,
     ) -> Result<Vec<usize>, NotationError> {
         let mut roots = Vec::new(self.alloc);
         for back in 0..constraints.len() {
-            let constraint = constraints[constraints.len() - 1 - back];
-            let root = self.add_constraint(
-                files,
-                constraint.scope,
-                constraint.index,
-                aspect,
-                levels,
-            )?;
-            if let Some(root) = root {
+            let ConstraintUse { scope, index } = constraints[constraints.len() - 1 - back];
+            if let Some(root) = self.add_constraint(files, scope, index, sought)? {
                 roots.push(root)?;
             }
         }
@@ -186,46 +213,35 @@ impl<'a> Terms<'a> {
         files: &mut Files<'_, '_>,
         scope: Scope,
         index: ConstraintIndex,
-        aspect: Aspect,
-        levels: u32,
+        sought: Sought,
     ) -> Result<Option<usize>, NotationError> {
         let term = files.constraint_term(scope, index)?;
+        let Sought { aspect, levels } = sought;
         if levels == 0 {
             return Err(scope.error(term.place, Problem::TooDeep));
         }
-        let below = levels - 1;
+        let below = Sought {
+            aspect,
+            levels: levels - 1,
+        };
         match &term.kind {
-            ConstraintKind::Extensible(root, _) => {
-                self.add_extensible(files, scope, *root, aspect, below)
-            }
+            ConstraintKind::Extensible(root, _) => self.add_extensible(files, scope, *root, below),
             ConstraintKind::Single(value) => self.add_single(files, scope, *value, aspect),
             ConstraintKind::Range(low, high) => self.add_range(files, scope, *low, *high, aspect),
             ConstraintKind::Size(inner) if aspect == Aspect::Sizes => {
-                self.add_constraint(files, scope, *inner, Aspect::Numbers, below)
+                self.add_constraint(files, scope, *inner, below.with(Aspect::Numbers))
             }
             ConstraintKind::From(inner) if aspect == Aspect::Alphabet => {
-                self.add_constraint(files, scope, *inner, Aspect::Characters, below)
+                self.add_constraint(files, scope, *inner, below.with(Aspect::Characters))
             }
-            ConstraintKind::Contained(inner) => self.add_contained(
-                files, scope, *inner, aspect, below,
-            ),
-            ConstraintKind::Union(parts) => self.add_union(
-                files,
-                scope,
-                parts.as_slice(),
-                aspect,
-                below,
-            ),
+            ConstraintKind::Contained(inner) => self.add_contained(files, scope, *inner, below),
+            ConstraintKind::Union(parts) => self.add_union(files, scope, parts.as_slice(), below),
             ConstraintKind::Intersection(parts) => {
-                self.add_intersection(files, scope, parts.as_slice(), aspect, below)
+                self.add_intersection(files, scope, parts.as_slice(), below)
             }
-            ConstraintKind::Except(first, _) => {
-                self.add_constraint(files, scope, *first, aspect, below)
-            }
-            ConstraintKind::Size(_)
-            | ConstraintKind::From(_)
-            | ConstraintKind::AllExcept(_)
-            | ConstraintKind::Unseen(_) => Ok(None),
+            ConstraintKind::Except(first, _) => self.add_constraint(files, scope, *first, below),
+            ConstraintKind::Size(_) | ConstraintKind::From(_) => Ok(None),
+            ConstraintKind::AllExcept(_) | ConstraintKind::Unseen(_) => Ok(None),
         }
     }
 
@@ -236,10 +252,9 @@ impl<'a> Terms<'a> {
         files: &mut Files<'_, '_>,
         scope: Scope,
         root: ConstraintIndex,
-        aspect: Aspect,
-        levels: u32,
+        sought: Sought,
     ) -> Result<Option<usize>, NotationError> {
-        match self.add_constraint(files, scope, root, aspect, levels)? {
+        match self.add_constraint(files, scope, root, sought)? {
             None => Ok(None),
             Some(root) => {
                 let extensible = ConstraintTerm::Extensible {
@@ -258,17 +273,13 @@ impl<'a> Terms<'a> {
         files: &mut Files<'_, '_>,
         scope: Scope,
         index: usize,
-        aspect: Aspect,
-        levels: u32,
+        sought: Sought,
     ) -> Result<Option<usize>, NotationError> {
         let base = base_of(self.alloc, files, TypeUse { scope, index })?;
         let count = self.written.len();
-        let roots = self.add_all(files, base.constraints.as_slice(), aspect, levels)?;
+        let roots = self.add_all(files, base.constraints.as_slice(), sought)?;
         self.written.truncate(count);
-        if roots.is_empty() {
-            return Ok(None);
-        }
-        Ok(Some(self.add(ConstraintTerm::Intersection(roots))?))
+        self.add_meet(roots)
     }
 
     /// Adds a union. If one of its parts is of another aspect, it admits all.
@@ -278,12 +289,11 @@ impl<'a> Terms<'a> {
         files: &mut Files<'_, '_>,
         scope: Scope,
         parts: &[ConstraintIndex],
-        aspect: Aspect,
-        levels: u32,
+        sought: Sought,
     ) -> Result<Option<usize>, NotationError> {
         let mut all = Vec::new(self.alloc);
         for part in parts {
-            match self.add_constraint(files, scope, *part, aspect, levels)? {
+            match self.add_constraint(files, scope, *part, sought)? {
                 None => return Ok(None),
                 Some(part) => all.push(part)?,
             }
@@ -298,19 +308,23 @@ impl<'a> Terms<'a> {
         files: &mut Files<'_, '_>,
         scope: Scope,
         parts: &[ConstraintIndex],
-        aspect: Aspect,
-        levels: u32,
+        sought: Sought,
     ) -> Result<Option<usize>, NotationError> {
         let mut all = Vec::new(self.alloc);
         for part in parts {
-            if let Some(part) = self.add_constraint(files, scope, *part, aspect, levels)? {
+            if let Some(part) = self.add_constraint(files, scope, *part, sought)? {
                 all.push(part)?;
             }
         }
-        if all.is_empty() {
+        self.add_meet(all)
+    }
+
+    /// Adds the intersection of parts, if there are any.
+    fn add_meet(&mut self, parts: Vec<usize>) -> Result<Option<usize>, NotationError> {
+        if parts.is_empty() {
             return Ok(None);
         }
-        Ok(Some(self.add(ConstraintTerm::Intersection(all))?))
+        Ok(Some(self.add(ConstraintTerm::Intersection(parts))?))
     }
 
     /// Adds a single value: a number, or the characters of a string in FROM.
