@@ -98,49 +98,48 @@ fn field_type(
     }
 }
 
-/// A type without its references and tags (X.680 14.1 and 31, X.681 14). The last tag may not be IMPLICIT before a CHOICE
-/// (X.680 31.2.9).
+/// A type without its references and tags (X.680 14.1 and 31, X.681 14). The last tag may not be IMPLICIT before a
+/// CHOICE (X.680 31.2.9).
 ///
 /// # Errors
 ///
-/// Those of a reference to a type (`referenced`). `ImplicitChoice` at such a tag, and `Circular` at the type after 64
-/// references and tags.
+/// Those of a reference to a type (`referenced`) and of a field of a class (`type_of_field`). `ImplicitChoice` at such a
+/// tag, and `Circular` at the type after 64 references and tags.
 pub fn base_of<'a>(
     alloc: Global,
     files: &mut Files<'a, '_>,
     start: TypeUse,
 ) -> Result<Base<'a>, NotationError> {
-    let mut at = start;
-    let mut symbol = None;
-    let mut tag = None;
+    let mut base = Base {
+        at: start,
+        term: files.type_term(start)?,
+        symbol: None,
+        tag: None,
+        constraints: Vec::new(alloc),
+        outer: 0,
+    };
     let mut implicit = None;
-    let mut constraints = Vec::new(alloc);
     for _ in 0..MOST_STEPS {
+        let at = base.at;
         let term = files.type_term(at)?;
-        let outer = constraints.len();
-        add_constraints(&mut constraints, at.scope, term)?;
+        base.term = term;
+        base.outer = base.constraints.len();
+        add_constraints(&mut base.constraints, at.scope, term)?;
         match &term.kind {
             TypeKind::Tagged(tagging, inner) => {
-                tag = tag.or(Some((at.scope, tagging)));
+                base.tag = base.tag.or(Some((at.scope, tagging)));
                 implicit = implicit_error(at.scope, term.place, tagging);
-                symbol = None;
-                at.index = *inner;
+                base.symbol = None;
+                base.at.index = *inner;
             }
             TypeKind::Reference(reference) => {
-                (symbol, at) = referenced(files, at.scope, reference, MOST_LEVELS)?;
+                (base.symbol, base.at) = referenced(files, at.scope, reference, MOST_LEVELS)?;
             }
             kind => match field_type(files, at.scope, kind)? {
-                Some(next) => (symbol, at) = (None, next),
+                Some(next) => (base.symbol, base.at) = (None, next),
                 None => {
                     check_implicit(kind, implicit)?;
-                    return Ok(Base {
-                        at,
-                        term,
-                        symbol,
-                        tag,
-                        constraints,
-                        outer,
-                    });
+                    return Ok(base);
                 }
             },
         }
