@@ -59,6 +59,29 @@ const SMALLS: [Row; 6] = [
     (small!("json", "uper", "--hex"), SMALL, b"-4", b"10\n"),
 ];
 
+/// Two characters that take four octets: their number has no effect on the encoding (X.696 27).
+const TEXT: &str = "M DEFINITIONS ::= BEGIN Small ::= UTF8String (SIZE (2)) END";
+
+const TEXTS: [Row; 2] = [
+    (
+        small!("coer", "json"),
+        TEXT,
+        b"\x04\xC3\xA4\xC3\xB6",
+        b"\"\xC3\xA4\xC3\xB6\"\n",
+    ),
+    (
+        small!("json", "uper"),
+        TEXT,
+        b"\"\xC3\xA4\xC3\xB6\"",
+        b"\x04\xC3\xA4\xC3\xB6",
+    ),
+];
+
+#[test]
+fn texts(rt: HostRuntime) {
+    assert!(rt; first_wrong(rt.alloc(), &TEXTS).is_none());
+}
+
 #[test]
 fn small_numbers(rt: HostRuntime) {
     assert!(rt; first_wrong(rt.alloc(), &SMALLS).is_none());

@@ -330,7 +330,8 @@ impl<'a, 'i> Building<'a, 'i> {
         Ok(TypeNode::BitString(sizes))
     }
 
-    /// A restricted character string (X.680 41).
+    /// A restricted character string (X.680 41). Encodings depend on the size of known-multiplier types alone (X.691
+    /// 30.1, X.696 27).
     fn character_string(
         &mut self,
         base: &Base<'_>,
@@ -339,9 +340,14 @@ impl<'a, 'i> Building<'a, 'i> {
         let Some(kind) = string_kind(name) else {
             return Err(base.error(Problem::UnsupportedType));
         };
+        let sizes = self.sizes(base)?;
         Ok(TypeNode::CharacterString(StringTable {
             kind,
-            sizes: self.sizes(base)?,
+            sizes: if has_known_multiplier(kind) {
+                sizes
+            } else {
+                ANY_SIZE
+            },
             alphabet: alphabet(self.alloc, &mut self.files, base, kind)?,
         }))
     }
@@ -553,6 +559,14 @@ pub(crate) fn string_kind(name: StringName) -> Option<StringKind> {
         StringName::Visible => Some(StringKind::Visible),
         StringName::Universal | StringName::Videotex => None,
     }
+}
+
+/// Whether a kind is a known-multiplier type, whose characters take the same number of bits each (X.691 3.7.16).
+pub(crate) fn has_known_multiplier(kind: StringKind) -> bool {
+    !matches!(
+        kind,
+        StringKind::General | StringKind::Graphic | StringKind::Teletex | StringKind::Utf8
+    )
 }
 
 /// The tag of a component of a SEQUENCE by its position. Neither PER nor OER encodes these tags, which may be equal

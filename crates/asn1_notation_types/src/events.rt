@@ -2,7 +2,7 @@
 ghost use Rattle.std.specs.Prelude.{◌≡◌, false, IfSome};
 ghost use Rattle.asn1_schema_constraints.specs.declared.bounds.Bounded.TheVariants.{Single};
 
-use crate::building::string_kind;
+use crate::building::{has_known_multiplier, string_kind};
 use asn1_notation_resolving::{
     Base, Files, NotationError, Problem, ValueUse, arcs_of, integer_of, item_of, number_limits,
     numbers_of, permits, settled, sizes,
@@ -93,7 +93,7 @@ pub(crate) fn has_size(
     Ok(sizes.is_extensible || sizes.root.contains(&size))
 }
 
-/// Whether the constraints of a string allow a number of characters; of octets any number.
+/// Whether the constraints of a string allow a number of characters.
 fn has_length(
     alloc: Global,
     files: &mut Files<'_, '_>,
@@ -101,12 +101,7 @@ fn has_length(
     kind: StringKind,
     length: usize,
 ) -> Result<bool, NotationError> {
-    match kind {
-        StringKind::Utf8 | StringKind::General | StringKind::Graphic | StringKind::Teletex => {
-            Ok(true)
-        }
-        _ => has_size(alloc, files, base, length),
-    }
+    Ok(!has_known_multiplier(kind) || has_size(alloc, files, base, length)?)
 }
 
 /// A value without parts, of a type.

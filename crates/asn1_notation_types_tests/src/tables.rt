@@ -5,7 +5,7 @@ use asn1_notation_types::{Additions, table_of};
 use std::alloc::Global;
 
 /// The assignments of modules with explicit tags, and the types of their tables.
-const EXPLICIT: [(&str, &str); 24] = [
+const EXPLICIT: [(&str, &str); 25] = [
     ("T ::= BOOLEAN", "0 BOOLEAN; "),
     ("T ::= A A ::= [5] B B ::= NULL", "0 NULL; "),
     ("T ::= INTEGER", "0 INTEGER; "),
@@ -48,9 +48,10 @@ const EXPLICIT: [(&str, &str); 24] = [
         "T ::= NumericString (FROM (\"0\"..\"9\"), ...)",
         "0 NumericString FROM 48 49 50 51 52 53 54 55 56 57 ...; ",
     ),
+    ("T ::= UTF8String (SIZE (1..MAX))", "0 UTF8String; "),
     (
-        "T ::= UTF8String (SIZE (1..MAX))",
-        "0 UTF8String SIZE (1..MAX); ",
+        "T ::= BMPString (SIZE (1..MAX))",
+        "0 BMPString SIZE (1..MAX); ",
     ),
     (
         "T ::= ENUMERATED {a, b, ..., c}",
