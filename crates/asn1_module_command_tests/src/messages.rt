@@ -139,7 +139,7 @@ fn open_types(rt: HostRuntime) {
             CONTAINER,
             b"2000010180",
             b"",
-            "asn1_relay: not an encoding: octet 3, in fields[0].value: this type has no values\n"
+            "asn1_relay: not an encoding: octet 3, bit 0, in fields[0].value: the type is not supported\n"
         )
     );
 }
