@@ -2,7 +2,7 @@
 use crate::constraints::{is_newline, write_character, write_quoted};
 use crate::labels::Labels;
 use asn1_table_json_writing::number_text;
-use asn1_table_names::{Part, alternative_of, component_at};
+use asn1_table_names::{Part, alternative_of, component_at, is_group};
 use asn1_table_tape::elements_at;
 use asn1_table_types::{DefaultValue, Event, StringKind, TypeNode};
 use asn1_values_bit_strings::BitString;
@@ -11,6 +11,31 @@ use std::str;
 
 /// An index outside each table.
 const NO_TYPE: usize = usize::MAX;
+
+/// A list of components of a SEQUENCE or SET.
+#[derive(Clone, Copy)]
+enum PartList {
+    /// The root components.
+    Root,
+    /// The additions.
+    Additions,
+    /// The components of the group of additions at an index.
+    Group(usize),
+}
+
+impl PartList {
+    /// The component at an index of the list.
+    fn part(self, index: usize) -> Part {
+        match self {
+            PartList::Root => Part::Root(index),
+            PartList::Additions => Part::Addition(index),
+            PartList::Group(addition) => Part::Grouped {
+                addition,
+                component: index,
+            },
+        }
+    }
+}
 
 /// The default of a component of the type at an index.
 #[cycle(values)]
@@ -36,7 +61,12 @@ pub fn write_default(
             write_default(text, labels, alternative, value)
         }
         DefaultValue::Components(root, additions) => {
-            write_components(text, labels, place, root.as_slice(), additions.as_slice())
+            text.push('{')?;
+            let begin = text.len();
+            write_parts(text, labels, place, PartList::Root, root.as_slice(), begin)?;
+            let list = PartList::Additions;
+            write_parts(text, labels, place, list, additions.as_slice(), begin)?;
+            text.push('}')
         }
     }
 }
@@ -60,61 +90,28 @@ fn write_elements(
     text.push('}')
 }
 
-/// The components of a value of the SEQUENCE or SET at an index, in braces (X.680 25.18 and 27.8).
+/// Components of a value of the SEQUENCE or SET at an index, those that are there (X.680 25.18 and 27.8). In the text
+/// all of its components begin at an octet.
 #[cycle(values)]
-fn write_components(
+fn write_parts(
     text: &mut String,
     labels: Labels<'_>,
     place: usize,
-    root: &[Option<DefaultValue>],
-    additions: &[Option<DefaultValue>],
-) -> Result<(), AllocError> {
-    text.push('{')?;
-    let begin = text.len();
-    for index in 0..root.len() {
-        if let Some(value) = &root[index] {
-            write_component(text, labels, place, Part::Root(index), value, begin)?;
-        }
-    }
-    for index in 0..additions.len() {
-        if let Some(value) = &additions[index] {
-            write_addition(text, labels, place, index, value, begin)?;
-        }
-    }
-    text.push('}')
-}
-
-/// The value of the addition at an index. That of a group has the values of its components, which are written alone.
-#[cycle(values)]
-fn write_addition(
-    text: &mut String,
-    labels: Labels<'_>,
-    place: usize,
-    addition: usize,
-    value: &DefaultValue,
+    list: PartList,
+    parts: &[Option<DefaultValue>],
     begin: usize,
 ) -> Result<(), AllocError> {
-    let part = Part::Addition(addition);
-    match value {
-        DefaultValue::Components(components, _) if is_group(labels, place, addition) => {
-            for index in 0..components.len() {
-                if let Some(value) = &components[index] {
-                    let part = Part::Grouped {
-                        addition,
-                        component: index,
-                    };
-                    write_component(text, labels, place, part, value, begin)?;
-                }
-            }
-            Ok(())
+    for index in 0..parts.len() {
+        if let Some(value) = &parts[index] {
+            write_part(text, labels, place, list.part(index), value, begin)?;
         }
-        _ => write_component(text, labels, place, part, value, begin),
     }
+    Ok(())
 }
 
-/// The name of a component and its value, after a comma unless the text ends where the components begin.
+/// A component: its identifier and its value, after a comma unless it is the first; or those of a group of additions.
 #[cycle(values)]
-fn write_component(
+fn write_part(
     text: &mut String,
     labels: Labels<'_>,
     place: usize,
@@ -122,23 +119,30 @@ fn write_component(
     value: &DefaultValue,
     begin: usize,
 ) -> Result<(), AllocError> {
+    let component = match component_at(labels.types, place, part) {
+        Some(component) => component.place,
+        None => NO_TYPE,
+    };
+    if let DefaultValue::Components(parts, _) = value {
+        if let Some(list) = group_list(labels, part, component) {
+            return write_parts(text, labels, place, list, parts.as_slice(), begin);
+        }
+    }
     if text.len() > begin {
         text.push_str(", ")?;
     }
     labels.write_part(text, place, part)?;
     text.push(' ')?;
-    let component = match component_at(labels.types, place, part) {
-        Some(component) => component.place,
-        None => NO_TYPE,
-    };
     write_default(text, labels, component, value)
 }
 
-/// Whether an addition of the SEQUENCE or SET at an index is a group.
-fn is_group(labels: Labels<'_>, place: usize, addition: usize) -> bool {
-    match component_at(labels.types, place, Part::Addition(addition)) {
-        Some(component) => matches!(labels.types.node(component.place), Some(TypeNode::Group(_))),
-        None => false,
+/// The components of an addition, if its type, whose index is given, is a group.
+fn group_list(labels: Labels<'_>, part: Part, component: usize) -> Option<PartList> {
+    match part {
+        Part::Addition(addition) if is_group(labels.types, component) => {
+            Some(PartList::Group(addition))
+        }
+        _ => None,
     }
 }
 

@@ -16,8 +16,8 @@ use std::mem;
 /// In how many levels a default is read.
 const MOST_LEVELS: u32 = 128;
 
-/// How many values are read for the defaults of a table, each as often as it is met.
-const MOST_VALUES: usize = 1_048_576;
+/// How many values are read for the defaults of a table at most: a reference to a value counts as all of its values.
+const MOST_VALUES: usize = 65_536;
 
 /// Reads the defaults of a table.
 #[derive(Drop)]

@@ -120,7 +120,7 @@ const ROWS: [(&str, Problem, usize); 42] = [
         Problem::TooDeep,
         72,
     ),
-    ("T ::= SEQUENCE {x T DEFAULT {x {}}}", Problem::TooDeep, 28),
+    ("T ::= SEQUENCE {x T DEFAULT {x {}}}", Problem::TooDeep, 31),
     (
         "T ::= SET {a [4294967296] NULL}",
         Problem::TagOutOfRange,
