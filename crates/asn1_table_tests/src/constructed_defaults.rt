@@ -168,7 +168,7 @@ fn holder(alloc: Global, default: DefaultValue, place: usize) -> Result<TypeNode
     }))
 }
 
-/// BOOLEAN, INTEGER, the group, a SEQUENCE or SET, and a SEQUENCE with a component of that type and the default of a row.
+/// BOOLEAN, INTEGER, the group, a SEQUENCE or SET, and a SEQUENCE with a component of that type and a row's default.
 fn nodes(alloc: Global, row: &Row, is_set: bool) -> Nodes {
     let d = part(alloc, &[3], Presence::Optional, 0)?;
     let table = table(alloc)?;
@@ -257,8 +257,8 @@ fn bag(alloc: Global, truths: &[bool]) -> Result<DefaultValue, AllocError> {
     Ok(DefaultValue::SetOf(elements))
 }
 
-/// BOOLEAN, SET OF BOOLEAN, SEQUENCE {p SET OF BOOLEAN DEFAULT {TRUE, FALSE, FALSE}}, a SET OF that, and a SEQUENCE with
-/// a default of {{}, {p ..}} for this SET OF.
+/// BOOLEAN, SET OF BOOLEAN, SEQUENCE {p SET OF BOOLEAN DEFAULT {TRUE, FALSE, FALSE}}, a SET OF that, and a SEQUENCE
+/// with a default of {{}, {p ..}} for this SET OF.
 fn bags(alloc: Global, elements: &[bool]) -> Nodes {
     let default = bag(alloc, &[true, false, false])?;
     let given = bag(alloc, elements)?;
