@@ -31,7 +31,7 @@ const EXPLICIT: [&str; 13] = [
 ];
 
 /// The same with automatic tags.
-const AUTOMATIC: [&str; 3] = [
+const AUTOMATIC: [&str; 5] = [
     "T ::= SEQUENCE {a A, ..., [[b A, c A OPTIONAL]], d A, [[e SEQUENCE {f NULL, ..., g NULL}]], ..., z NULL} \
      A ::= BOOLEAN",
     "T ::= SEQUENCE {a BOOLEAN DEFAULT TRUE, b INTEGER DEFAULT -5, c ENUMERATED {p, q} DEFAULT q, \
@@ -39,6 +39,13 @@ const AUTOMATIC: [&str; 3] = [
      g IA5String DEFAULT \"say \"\"hi\"\"\", h UTF8String DEFAULT \"\u{e9}\", i SEQUENCE OF INTEGER DEFAULT {1, -2}, \
      j SET OF ENUMERATED {p, q} DEFAULT {q}, k SEQUENCE OF BOOLEAN DEFAULT {}}",
     "T ::= CHOICE {a CHOICE {b NULL, c SET {d BOOLEAN, e NULL}}, ..., [[f NULL, g T]]}",
+    "T ::= SEQUENCE {a S DEFAULT {n -5, f {q}, l {{}, {n 3, l {}}}}, b SEQUENCE {} DEFAULT {}, \
+     c SET {x [9] NULL, y [3] E, z [4] S OPTIONAL} DEFAULT {x NULL, y q}, d SET OF C DEFAULT {e : q, s : {n 0}}} \
+     S ::= SEQUENCE {n INTEGER DEFAULT 0, o S OPTIONAL, f BIT STRING {p(0), q(4)} (SIZE (5)) DEFAULT {p}, \
+     l SEQUENCE OF S OPTIONAL} E ::= ENUMERATED {p, q} C ::= CHOICE {e E, s S}",
+    "T ::= SEQUENCE {a S DEFAULT {b TRUE, c 7, e {2, 1, 2}, h 5}, b S DEFAULT {b FALSE, d NULL, c 1, g FALSE}} \
+     S ::= SEQUENCE {b BOOLEAN, ..., [[d NULL OPTIONAL, c INTEGER]], e SET OF INTEGER DEFAULT {1, 2, 1}, f NULL, \
+     [[h INTEGER DEFAULT 5]], ..., g BOOLEAN DEFAULT TRUE}",
 ];
 
 /// What a printed type begins with.

@@ -1,9 +1,10 @@
 //! The nodes of a table (X.680 18 to 41).
-use crate::defaults::{default_of, fixed_size};
+use crate::defaults::Defaults;
+use crate::events::fixed_size;
+use crate::parts::{is_last_of_group, is_required, root_order};
 use crate::tables::Additions;
 use asn1_notation_components::{
-    Part, Parts, TaggedPart, alternatives_of, check_sequence, check_set, ordered, parts_of,
-    tags_of_part,
+    Part, Parts, TaggedPart, alternatives_of, check_sequence, check_set, parts_of, tags_of_part,
 };
 use asn1_notation_resolving::{
     Base, Files, NameSet, NotationError, Numbered, Problem, Scope, Symbol, TypeUse, ValueUse,
@@ -61,6 +62,7 @@ pub(crate) struct Building<'a, 'i> {
     alloc: Global,
     pub(crate) files: Files<'a, 'i>,
     additions: Additions,
+    defaults: Defaults,
     pub(crate) nodes: Vec<TypeNode>,
     pub(crate) names: Vec<TypeNames>,
     pub(crate) origins: Vec<Origin>,
@@ -79,6 +81,7 @@ impl<'a, 'i> Building<'a, 'i> {
             alloc,
             files,
             additions,
+            defaults: Defaults::new(alloc, additions),
             nodes: Vec::new(alloc),
             names: Vec::new(alloc),
             origins: Vec::new(alloc),
@@ -342,19 +345,17 @@ impl<'a, 'i> Building<'a, 'i> {
         tags: Vec<Tag>,
         is_added: bool,
     ) -> Result<Component, NotationError> {
-        let may_be_absent = is_added && matches!(self.additions, Additions::MayBeAbsent);
         let presence = match part.presence {
-            WrittenPresence::Required if may_be_absent => Presence::Optional,
-            WrittenPresence::Required => Presence::Required,
-            WrittenPresence::Optional => Presence::Optional,
             WrittenPresence::Default(index) => {
                 let value = ValueUse {
                     scope: part.at.scope,
                     index,
                 };
                 let base = base_of(self.alloc, &mut self.files, part.at)?;
-                Presence::Default(default_of(self.alloc, &mut self.files, &base, value)?)
+                Presence::Default(self.defaults.read(&mut self.files, &base, value)?)
             }
+            written if is_required(written, self.additions, is_added) => Presence::Required,
+            _ => Presence::Optional,
         };
         Ok(Component {
             tags,
@@ -394,7 +395,7 @@ impl<'a, 'i> Building<'a, 'i> {
             is_extensible: parts.is_extensible,
             additions: Vec::new(self.alloc),
         };
-        for index in self.root_order(&parts, is_set)? {
+        for index in root_order(self.alloc, &mut self.files, &parts, is_set)? {
             if let Some(part) = parts.root.get(index).copied() {
                 let automatic = if is_set {
                     parts.root_tag(index)
@@ -408,29 +409,6 @@ impl<'a, 'i> Building<'a, 'i> {
         }
         self.add_additions(&parts, is_set, &mut table.additions, names)?;
         Ok(table)
-    }
-
-    /// The indices of root components: as they are written, or for a SET in the order of their least tags.
-    fn root_order(&mut self, parts: &Parts<'a>, is_set: bool) -> Result<Vec<usize>, NotationError> {
-        let mut least = Vec::new(self.alloc);
-        let mut order = Vec::new(self.alloc);
-        for index in 0..parts.root.len() {
-            order.push(index)?;
-            if is_set {
-                let part = parts.root[index];
-                let tags = tags_of_part(self.alloc, &mut self.files, part, parts.root_tag(index))?;
-                least.push(least_of(tags.as_slice()))?;
-            }
-        }
-        if is_set {
-            return ordered(
-                self.alloc,
-                parts.scope,
-                parts.root.as_slice(),
-                least.as_slice(),
-            );
-        }
-        Ok(order)
     }
 
     /// Adds the additions of a SEQUENCE or SET, and their names. Those in the same version brackets are a group.
@@ -459,8 +437,7 @@ impl<'a, 'i> Building<'a, 'i> {
             group.tags.extend_from_slice(tags.as_slice())?;
             group.names.root.push(self.name_of(part)?)?;
             group.components.push(self.component(part, tags, false)?)?;
-            let next = parts.additions.get(index + 1);
-            if next.and_then(|next| next.group) != part.group {
+            if is_last_of_group(parts, index) {
                 let done = mem::replace(&mut group, Grouped::new(self.alloc));
                 names.additions.push(String::new(self.alloc))?;
                 let origin = Origin::Group(part.at.scope, part.name.place);
@@ -562,17 +539,6 @@ pub(crate) fn string_kind(name: StringName) -> Option<StringKind> {
 fn position_tag(position: usize) -> Option<Tag> {
     let number = u32::try_from(position).ok()?;
     Some(Tag::new_context(number))
-}
-
-/// The least tag (X.680 8.6).
-fn least_of(tags: &[Tag]) -> Tag {
-    let mut least = Tag::new_private(u32::MAX);
-    for tag in tags {
-        if tag.const_less_than(least) {
-            least = *tag;
-        }
-    }
-    least
 }
 
 /// Adds the numbers and the names of items.

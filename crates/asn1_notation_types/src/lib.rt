@@ -4,6 +4,9 @@
 mod building;
 mod defaults;
 mod endless;
+mod events;
+mod given;
+mod parts;
 mod tables;
 
 pub use asn1_notation_resolving::{Explained, Near, NotationError, Problem};

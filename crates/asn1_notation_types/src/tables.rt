@@ -136,5 +136,8 @@ fn refused(
         TableError::Unlawful { place, flaw } => {
             problem_at(alloc, files, origins, place, Problem::Unlawful(flaw))
         }
+        TableError::DefaultNotNormal { place } => {
+            problem_at(alloc, files, origins, place, Problem::UnsupportedDefault)
+        }
     }
 }

@@ -7,7 +7,7 @@ use std::alloc::Global;
 const BEGIN: &str = "M DEFINITIONS ::= BEGIN ";
 
 /// Assignments, what is wrong, and the octet from there on.
-const ROWS: [(&str, Problem, usize); 29] = [
+const ROWS: [(&str, Problem, usize); 42] = [
     ("T ::= A", Problem::UnknownType, 6),
     ("T ::= INTEGER (0..v)", Problem::UnknownValue, 18),
     ("T ::= A A ::= T", Problem::Circular, 6),
@@ -56,10 +56,71 @@ const ROWS: [(&str, Problem, usize); 29] = [
         34,
     ),
     (
-        "T ::= SEQUENCE {a SEQUENCE {b NULL} DEFAULT {b NULL}}",
+        "T ::= SEQUENCE {a SEQUENCE {b REAL} DEFAULT {b 1.5}}",
         Problem::UnsupportedDefault,
-        44,
+        47,
     ),
+    (
+        "T ::= SEQUENCE {a SEQUENCE {b NULL, c NULL} DEFAULT {b NULL}}",
+        Problem::ValueOfOtherType,
+        52,
+    ),
+    (
+        "T ::= SEQUENCE {a SET {b NULL} DEFAULT {}}",
+        Problem::ValueOfOtherType,
+        39,
+    ),
+    (
+        "T ::= SEQUENCE {a SEQUENCE {..., b NULL} DEFAULT {}}",
+        Problem::ValueOfOtherType,
+        49,
+    ),
+    (
+        "T ::= SEQUENCE {a SEQUENCE {..., [[b NULL, c NULL DEFAULT NULL]]} DEFAULT {c NULL}}",
+        Problem::ValueOfOtherType,
+        74,
+    ),
+    (
+        "T ::= SEQUENCE {a SEQUENCE {b NULL} DEFAULT {NULL}}",
+        Problem::ValueOfOtherType,
+        45,
+    ),
+    (
+        "T ::= SEQUENCE {a SEQUENCE {b NULL, c NULL} DEFAULT {c NULL, b NULL}}",
+        Problem::ValueOfOtherType,
+        61,
+    ),
+    (
+        "T ::= SEQUENCE {a SEQUENCE {b NULL, ..., c NULL, ..., d NULL} DEFAULT {b NULL, d NULL, c NULL}}",
+        Problem::ValueOfOtherType,
+        87,
+    ),
+    (
+        "T ::= SEQUENCE {a SEQUENCE {b NULL OPTIONAL} DEFAULT {c NULL}}",
+        Problem::UnknownValue,
+        54,
+    ),
+    (
+        "T ::= SEQUENCE {a SET {b NULL} DEFAULT {b NULL, b NULL}}",
+        Problem::NameTwice,
+        48,
+    ),
+    (
+        "T ::= SEQUENCE {a SET OF SEQUENCE {b INTEGER (0..7)} DEFAULT {{b 7}, {b 8}}}",
+        Problem::DefaultOutside,
+        72,
+    ),
+    (
+        "T ::= SEQUENCE {a SET (SIZE (1)) OF NULL DEFAULT {NULL, NULL}}",
+        Problem::DefaultOutside,
+        49,
+    ),
+    (
+        "T ::= SEQUENCE {a A DEFAULT v} A ::= SEQUENCE {x A OPTIONAL} v A ::= {x v}",
+        Problem::TooDeep,
+        72,
+    ),
+    ("T ::= SEQUENCE {x T DEFAULT {x {}}}", Problem::TooDeep, 31),
     (
         "T ::= SET {a [4294967296] NULL}",
         Problem::TagOutOfRange,

@@ -119,7 +119,8 @@ const AUTOMATIC: [(&str, &str); 9] = [
     ),
     (
         "T ::= SEQUENCE {a SEQUENCE OF INTEGER DEFAULT {}, b SET OF NULL DEFAULT {NULL}}",
-        "0 SEQUENCE [0] 1 DEFAULT list, [1] 2 DEFAULT NULL,; 1 SEQUENCE OF 3; 2 SET OF 4; 3 INTEGER; 4 NULL; ",
+        "0 SEQUENCE [0] 1 DEFAULT list ( ), [1] 2 DEFAULT bag ( NULL ),; 1 SEQUENCE OF 3; 2 SET OF 4; \
+         3 INTEGER; 4 NULL; ",
     ),
     (
         "T ::= SEQUENCE {a IA5String DEFAULT \"hi\", b UTF8String DEFAULT \"\u{e9}\"}",
