@@ -1,4 +1,7 @@
 //! Names that may occur once in one place.
+ghost use Rattle.std.specs.Prelude.{IfErr};
+ghost use Rattle.asn1_notation_names.specs.Errors.{IsErrorOf, error_at};
+
 use crate::errors::{NotationError, Problem};
 use crate::scopes::Scope;
 use asn1_notation_tree::Name;
@@ -24,7 +27,9 @@ impl<'a> NameSet<'a> {
     /// # Errors
     ///
     /// `NameTwice` at a lexical item of the module, if the name is there already.
-    pub fn add(&mut self, scope: Scope, place: usize, name: &'a Name) -> Result<(), NotationError> {
+    pub fn add(&mut self, scope: Scope, place: usize, name: &'a Name) -> Result<(), NotationError>
+        ensures { IfErr result (IsErrorOf (error_at scope.file place Problem.NameTwice)) }
+    {
         if self.names.insert(name.text.as_str())? {
             return Ok(());
         }

@@ -1,5 +1,6 @@
 //! Why a text has no table.
-ghost use Rattle.std.specs.Prelude.{◌≡◌, None};
+ghost use Rattle.std.specs.Prelude.{◌≡◌};
+ghost use Rattle.asn1_notation_names.specs.Errors.{error_at, out_of_memory};
 
 use asn1_notation_tree::Syntax;
 use asn1_table_types::Flaw;
@@ -164,7 +165,7 @@ pub struct NotationError {
 impl NotationError {
     /// An error at the first lexical item of the first file.
     pub fn new(problem: Problem) -> Self
-        ensures { result ≡ record { file = 0; place = 0; problem = problem; near = None } }
+        ensures { result ≡ error_at 0 0 problem }
     {
         NotationError {
             file: 0,
@@ -209,13 +210,17 @@ impl fmt::Display for Explained<'_> {
 }
 
 impl From<AllocError> for NotationError {
+    ghost from_gives = { λ _ e. e ≡ out_of_memory };
+
     fn from(_refused: AllocError) -> Self {
         NotationError::new(Problem::OutOfMemory)
     }
 }
 
 impl<T: Drop> From<AllocFailed<T>> for NotationError {
-    fn from(refused: AllocFailed<T>) -> Self {
-        NotationError::from(AllocError::from(refused))
+    ghost from_gives = { λ _ e. e ≡ out_of_memory };
+
+    fn from(_refused: AllocFailed<T>) -> Self {
+        NotationError::new(Problem::OutOfMemory)
     }
 }

@@ -1,5 +1,6 @@
 //! Modules, and what their names stand for (X.680 13).
-ghost use Rattle.std.specs.Prelude.{◌≡◌, None};
+ghost use Rattle.std.specs.Prelude.{◌≡◌, IfErr, None};
+ghost use Rattle.asn1_notation_names.specs.Errors.{error_at};
 
 use crate::errors::{NotationError, Problem};
 use crate::instances::{Instance, Key};
@@ -54,7 +55,7 @@ impl Scope {
 
     /// An error at a lexical item of the module's file.
     pub fn error(self, place: usize, problem: Problem) -> NotationError
-        ensures { result ≡ record { file = self.file; place = place; problem = problem; near = None } }
+        ensures { result ≡ error_at self.file place problem }
     {
         NotationError {
             file: self.file,
@@ -292,7 +293,9 @@ impl<'a, 'i> Files<'a, 'i> {
     /// # Errors
     ///
     /// `UnknownType` at the first lexical item of the file, if there is no such term.
-    pub fn type_term(&self, at: TypeUse) -> Result<&'a TypeTerm, NotationError> {
+    pub fn type_term(&self, at: TypeUse) -> Result<&'a TypeTerm, NotationError>
+        ensures { IfErr result (λ e. e ≡ error_at at.scope.file 0 Problem.UnknownType) }
+    {
         let found = match self.files.get(at.scope.file) {
             Some(file) => file.types.get(at.index),
             None => None,
@@ -309,7 +312,9 @@ impl<'a, 'i> Files<'a, 'i> {
         &self,
         scope: Scope,
         index: ValueIndex,
-    ) -> Result<&'a ValueTerm, NotationError> {
+    ) -> Result<&'a ValueTerm, NotationError>
+        ensures { IfErr result (λ e. e ≡ error_at scope.file 0 Problem.UnknownValue) }
+    {
         let found = match self.files.get(scope.file) {
             Some(file) => file.values.get(index),
             None => None,
@@ -326,7 +331,9 @@ impl<'a, 'i> Files<'a, 'i> {
         &self,
         scope: Scope,
         index: ConstraintIndex,
-    ) -> Result<&'a ConstraintTerm, NotationError> {
+    ) -> Result<&'a ConstraintTerm, NotationError>
+        ensures { IfErr result (λ e. e ≡ error_at scope.file 0 Problem.UnsupportedConstraint) }
+    {
         let found = match self.files.get(scope.file) {
             Some(file) => file.constraints.get(index),
             None => None,
@@ -400,7 +407,7 @@ impl<'a, 'i> Files<'a, 'i> {
     ///
     /// `UnknownModule` at the name of a module that is not among the files, there or in an IMPORTS. `NotExported`, or
     /// the problem that is given if nothing has the name: at it, or where it is imported.
-    pub(crate) fn find(
+    pub fn find(
         &self,
         scope: Scope,
         module: Option<&Name>,

@@ -1,4 +1,6 @@
 //! Constraints (X.680 49 and 50).
+ghost use Rattle.std.specs.Prelude.{◌≡◌};
+
 use crate::elements::{read_contained, read_table, read_values, read_words, see_table};
 use crate::inner::read_inner;
 use crate::parser::Parser;
@@ -105,9 +107,15 @@ fn read_exclusion(parser: &mut Parser<'_>, depth: usize) -> Parsed<ConstraintInd
     parser.add_constraint(place, ConstraintKind::Except(included, excluded))
 }
 
-/// Elements without UNION, INTERSECTION and EXCEPT, unless in parentheses (X.680 50.1, 51.1).
+/// Elements without UNION, INTERSECTION and EXCEPT, unless in parentheses (X.680 50.1, 51.1), nested at most this deep.
+///
+/// # Errors
+///
+/// The first item that the notation does not allow there, or that is nested deeper; and `OutOfMemory`.
 #[cycle(constraints)]
-pub fn read_elements(parser: &mut Parser<'_>, depth: usize) -> Parsed<ConstraintIndex> {
+pub fn read_elements(parser: &mut Parser<'_>, depth: usize) -> Parsed<ConstraintIndex>
+    ensures { depth ≡ 0 → result ≡ Err (Refusal.TooDeep parser.old.next) }
+{
     let place = parser.next;
     if depth == 0 {
         return Err(Refusal::TooDeep(place));

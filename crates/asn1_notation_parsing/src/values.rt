@@ -1,4 +1,6 @@
 //! Values (X.680 17.7).
+ghost use Rattle.std.specs.Prelude.{◌≡◌};
+
 use crate::braces::{read_arcs, see_arcs};
 use crate::parser::Parser;
 use crate::references::{read_value_reference, see_value, skip_type};
@@ -8,8 +10,14 @@ use asn1_notation_tokens::{ItemKind, Symbol, Word};
 use asn1_notation_tree::{Expected, ListElement, ValueIndex, ValueKind};
 
 /// A value that begins at the next item, nested at most this deep.
+///
+/// # Errors
+///
+/// The first item that the notation does not allow there, or that is nested deeper; and `OutOfMemory`.
 #[cycle(value)]
-pub fn read_value(parser: &mut Parser<'_>, depth: usize) -> Parsed<ValueIndex> {
+pub fn read_value(parser: &mut Parser<'_>, depth: usize) -> Parsed<ValueIndex>
+    ensures { depth ≡ 0 → result ≡ Err (Refusal.TooDeep parser.old.next) }
+{
     let place = parser.next;
     if depth == 0 {
         return Err(Refusal::TooDeep(place));
