@@ -1,4 +1,4 @@
-//! The components that a value of a SEQUENCE or SET gives by their names (X.680 25.18 and 27.8).
+//! The components that a value of a SEQUENCE or SET gives by their names (X.680 25.18 and 27).
 use crate::parts::{is_last_of_group, is_required};
 use crate::tables::Additions;
 use asn1_notation_components::Parts;
@@ -68,7 +68,7 @@ impl Given {
 }
 
 /// The values that a value gives for the components of a type. In a SEQUENCE they come in the order of the components
-/// (X.680 25.20).
+/// (X.680 25).
 ///
 /// # Errors
 ///
