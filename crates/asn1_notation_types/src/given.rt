@@ -19,6 +19,30 @@ pub(crate) struct Given {
 }
 
 impl Given {
+    /// No values.
+    fn new(alloc: Global, parts: &Parts<'_>) -> Result<Self, AllocError> {
+        let mut values = Vec::new(alloc);
+        for _ in parts.root.iter().chain(&parts.additions) {
+            values.push(None)?;
+        }
+        Ok(Given {
+            values,
+            first: parts.first,
+            added: parts.additions.len(),
+        })
+    }
+
+    /// Gives the component at a position a value, unless it has one.
+    fn give(&mut self, position: usize, value: ValueUse) -> bool {
+        match self.values.get_mut(position) {
+            Some(known) if known.is_none() => {
+                *known = Some(value);
+                true
+            }
+            _ => false,
+        }
+    }
+
     /// The value of the root component at an index, if it is given.
     pub(crate) fn root(&self, index: usize) -> Option<ValueUse> {
         if index < self.first {
@@ -86,9 +110,8 @@ pub(crate) fn given_parts(
         return Err(value.error(files, Problem::ValueOfOtherType));
     };
     let positions = positions_of(alloc, parts)?;
-    let mut values: Vec<Option<ValueUse>> = Vec::new(alloc);
-    values.resize(positions.len(), None)?;
-    let mut next = 0;
+    let mut given = Given::new(alloc, parts)?;
+    let mut last = 0;
     for element in elements {
         let one = ValueUse {
             scope: at.scope,
@@ -100,22 +123,15 @@ pub(crate) fn given_parts(
         let Some(position) = positions.get(name.text.as_str()).copied() else {
             return Err(at.scope.error(name.place, Problem::UnknownValue));
         };
-        if let Some(known) = values.get_mut(position) {
-            if known.is_some() {
-                return Err(at.scope.error(name.place, Problem::NameTwice));
-            }
-            *known = Some(one);
+        if !given.give(position, one) {
+            return Err(at.scope.error(name.place, Problem::NameTwice));
         }
-        if !is_set && position < next {
+        if !is_set && position < last {
             return Err(at.scope.error(name.place, Problem::ValueOfOtherType));
         }
-        next = position;
+        last = position;
     }
-    Ok(Given {
-        values,
-        first: parts.first,
-        added: parts.additions.len(),
-    })
+    Ok(given)
 }
 
 /// The positions of components by their names, as these are written: the additions are among the root components.
