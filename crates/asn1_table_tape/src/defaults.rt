@@ -268,13 +268,7 @@ fn past_mark(mark: Mark, value: &[Event]) -> &[Event]
     ensures { result.now ≡ past (has_mark mark) value.now }
 {
     match value.split_first() {
-        Some((first, rest)) => {
-            if has_mark(mark, first) {
-                rest
-            } else {
-                value
-            }
-        }
+        Some((first, rest)) => { if has_mark(mark, first) { rest } else { value } }
         None => value,
     }
 }
