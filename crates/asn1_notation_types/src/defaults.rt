@@ -149,7 +149,7 @@ impl Defaults {
         Ok(DefaultValue::Choice(chosen, Box::new(self.alloc, inner)?))
     }
 
-    /// The components of a SEQUENCE or SET (X.680 25.18 and 27.8).
+    /// The components of a SEQUENCE or SET (X.680 25.18 and 27).
     #[cycle(values)]
     fn components_of<'a>(
         &mut self,

@@ -1,4 +1,4 @@
-//! The components that a value of a SEQUENCE or SET gives by their names (X.680 25.18 and 27.8).
+//! The components that a value of a SEQUENCE or SET gives by their names (X.680 25.18 and 27).
 use crate::parts::{is_last_of_group, is_required};
 use crate::tables::Additions;
 use asn1_notation_components::Parts;
@@ -19,6 +19,30 @@ pub(crate) struct Given {
 }
 
 impl Given {
+    /// No values.
+    fn new(alloc: Global, parts: &Parts<'_>) -> Result<Self, AllocError> {
+        let mut values = Vec::new(alloc);
+        for _ in parts.root.iter().chain(&parts.additions) {
+            values.push(None)?;
+        }
+        Ok(Given {
+            values,
+            first: parts.first,
+            added: parts.additions.len(),
+        })
+    }
+
+    /// Gives the component at a position a value, unless it has one.
+    fn give(&mut self, position: usize, value: ValueUse) -> bool {
+        match self.values.get_mut(position) {
+            Some(known) if known.is_none() => {
+                *known = Some(value);
+                true
+            }
+            _ => false,
+        }
+    }
+
     /// The value of the root component at an index, if it is given.
     pub(crate) fn root(&self, index: usize) -> Option<ValueUse> {
         if index < self.first {
@@ -68,7 +92,7 @@ impl Given {
 }
 
 /// The values that a value gives for the components of a type. In a SEQUENCE they come in the order of the components
-/// (X.680 25.20).
+/// (X.680 25).
 ///
 /// # Errors
 ///
@@ -86,9 +110,8 @@ pub(crate) fn given_parts(
         return Err(value.error(files, Problem::ValueOfOtherType));
     };
     let positions = positions_of(alloc, parts)?;
-    let mut values: Vec<Option<ValueUse>> = Vec::new(alloc);
-    values.resize(positions.len(), None)?;
-    let mut next = 0;
+    let mut given = Given::new(alloc, parts)?;
+    let mut last = 0;
     for element in elements {
         let one = ValueUse {
             scope: at.scope,
@@ -100,22 +123,15 @@ pub(crate) fn given_parts(
         let Some(position) = positions.get(name.text.as_str()).copied() else {
             return Err(at.scope.error(name.place, Problem::UnknownValue));
         };
-        if let Some(known) = values.get_mut(position) {
-            if known.is_some() {
-                return Err(at.scope.error(name.place, Problem::NameTwice));
-            }
-            *known = Some(one);
+        if !given.give(position, one) {
+            return Err(at.scope.error(name.place, Problem::NameTwice));
         }
-        if !is_set && position < next {
+        if !is_set && position < last {
             return Err(at.scope.error(name.place, Problem::ValueOfOtherType));
         }
-        next = position;
+        last = position;
     }
-    Ok(Given {
-        values,
-        first: parts.first,
-        added: parts.additions.len(),
-    })
+    Ok(given)
 }
 
 /// The positions of components by their names, as these are written: the additions are among the root components.
