@@ -1,4 +1,7 @@
 //! The components of SEQUENCE and SET and the alternatives of CHOICE, with their tags (X.680 25, 27 and 29).
+ghost use Rattle.std.specs.Prelude.{IfOk, length};
+ghost use Rattle.asn1_notation_rules.specs.Ordering.{AreInOrder};
+
 use crate::distinct::TagSet;
 use asn1_notation_resolving::{
     Files, NameSet, NotationError, Problem, Scope, TypeUse, ValueUse, base_of, is_written_tagged,
@@ -383,14 +386,17 @@ pub fn ordered(
     scope: Scope,
     parts: &[Part<'_>],
     tags: &[Tag],
-) -> Result<Vec<usize>, NotationError> {
-    canonical_order(alloc, tags).map_err(|error| match error {
-        OrderError::OutOfMemory => NotationError::new(Problem::OutOfMemory),
-        OrderError::TagTwice { first: _, second } => {
+) -> Result<Vec<usize>, NotationError>
+    ensures { IfOk result (λ order. AreInOrder tags.now (length tags.now) order.items) }
+{
+    match canonical_order(alloc, tags) {
+        Ok(order) => Ok(order),
+        Err(OrderError::OutOfMemory) => Err(NotationError::new(Problem::OutOfMemory)),
+        Err(OrderError::TagTwice { first: _, second }) => {
             let place = parts.get(second).map_or(0, |part| part.place);
-            scope.error(place, Problem::TagTwice)
+            Err(scope.error(place, Problem::TagTwice))
         }
-    })
+    }
 }
 
 /// An alternative, and its tag.

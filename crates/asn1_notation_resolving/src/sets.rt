@@ -1,5 +1,7 @@
 //! Which numbers, sizes and characters the constraints of a type allow, as far as PER and OER see them (X.691 10.3,
 //! X.696 8.2).
+ghost use Rattle.std.specs.Prelude.{◌≡◌};
+
 use crate::bases::{Base, ConstraintUse, base_of};
 use asn1_notation_constraints::{ConstraintTerm, Visible, effective};
 use asn1_notation_intervals::{Interval, NumberSet};

@@ -35,9 +35,9 @@ const ROWS: [(&str, Problem, usize); 42] = [
         49,
     ),
     (
-        "T ::= A {NULL} A {V} ::= SEQUENCE {a A {SEQUENCE OF V}, b A {SET OF V}}",
+        "T ::= A {NULL} A {V} ::= SEQUENCE {a A {A {A {A {A {A {NULL}}}}}}, b A {A {A {A {A {A {NULL}}}}}}}",
         Problem::TooManyInstances,
-        58,
+        43,
     ),
     ("T ::= BIT STRING {a(0)}", Problem::NamedBits, 6),
     (
