@@ -8,18 +8,11 @@ use asn1_relay_vectors_lines::line::{Limit, LineError, Verdict};
 use asn1_relay_vectors_lines::octets::shown;
 use std::alloc::{AllocError, Global};
 
-/// The first octet and the length of inputs for which truncation at each octet would cost decoders 10^9 steps: a list
-/// of 16,385 elements, and fragments followed by 16,384 octets or more.
-const HEAVY: [(u8, usize); 8] = [
-    (0x02, 16_388),
-    (0xC1, 81_923),
-    (0xC2, 49_155),
-    (0xC3, 65_538),
-    (0xC4, 80_003),
-    (0xC4, 81_923),
-    (0xC4, 81_924),
-    (0xC4, 131_075),
-];
+/// The longest input that is truncated at each octet. Truncated prefixes of longer ones hold 10^9 octets or more.
+const LONGEST: usize = 20_000;
+
+/// The first octets and the length of a list of 16,385 elements, whose truncated prefixes hold 10^9 elements.
+const LIST: ([u8; 4], usize) = ([0x02, 0x40, 0x01, 0xFF], 16_388);
 
 /// The number of sets of rules whose encodings differ. The strict rules after them encode as two of these do, and a
 /// relay from the strict rules goes to those.
@@ -256,10 +249,8 @@ fn lengths_of(alloc: Global, octets: &[u8]) -> Result<Vec<usize>, LineError> {
 
 /// Whether octets are truncated near their ends only.
 fn is_heavy(octets: &[u8]) -> bool {
-    match octets.first() {
-        Some(first) => HEAVY.contains(&(*first, octets.len())),
-        None => false,
-    }
+    let (begins, length) = LIST;
+    octets.len() > LONGEST || octets.len() == length && octets.starts_with(&begins)
 }
 
 /// Octets, the lengths of the prefixes that are tried, and the rules by which they are decoded.
