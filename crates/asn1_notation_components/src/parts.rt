@@ -320,20 +320,25 @@ pub fn parts_of<'a>(
     components: &'a Components,
     is_set: bool,
 ) -> Result<Parts<'a>, NotationError> {
-    let braces = written_parts(alloc, files, scope, components, is_set)?;
-    check_names(alloc, scope, &braces.written)?;
+    let Braces {
+        written,
+        are_root_tagged,
+        are_added_tagged,
+        added_places,
+    } = written_parts(alloc, files, scope, components, is_set)?;
+    check_names(alloc, scope, &written)?;
     let module = files.module(scope);
     let environment = module.map_or(TagDefault::Explicit, |module| environment_of(module.tags));
     let is_implied = module.map_or(false, |module| module.is_extensibility_implied);
-    let are_added_tagged = braces.are_added_tagged.as_slice();
-    let mut are_tagged = braces.are_root_tagged;
+    let are_added_tagged = are_added_tagged.as_slice();
+    let mut are_tagged = are_root_tagged;
     if let Some(index) = misplaced_tag(environment, are_tagged.as_slice(), are_added_tagged) {
-        let place = braces.added_places.get(index).copied().unwrap_or(0);
+        let place = added_places.get(index).copied().unwrap_or(0);
         return Err(scope.error(place, Problem::MisplacedTag));
     }
     are_tagged.extend_from_slice(are_added_tagged)?;
-    let first = braces.written.first.len();
-    let inserted = insert_extensions(alloc, braces.written, is_implied)?;
+    let first = written.first.len();
+    let inserted = insert_extensions(alloc, written, is_implied)?;
     let automatic = if is_automatic(environment, are_tagged.as_slice()) {
         Some(tags_from_zero(alloc, scope, inserted.root.len(), inserted.additions.len())?)
     } else {
