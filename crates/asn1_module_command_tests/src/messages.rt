@@ -101,7 +101,8 @@ const CONTAINER: &str = "M DEFINITIONS AUTOMATIC TAGS ::= BEGIN
 macro_rules! container {
     ($from:literal, $to:literal $(, $more:literal)*) => {
         &[
-            "asn1_relay", "once", "--module=m.asn", "--type", "Message", "--from", $from, "--to", $to, "--hex" $(, $more)*
+            "asn1_relay", "once", "--module=m.asn", "--type", "Message", "--from", $from, "--to", $to, "--hex"
+            $(, $more)*
         ]
     };
 }

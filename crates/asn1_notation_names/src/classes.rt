@@ -39,8 +39,8 @@ pub fn class_named(
     Err(scope.error(reference.name.place, Problem::Circular))
 }
 
-/// The type of the values of a field of a class (X.681 14), by the names of the fields that lead to it; none if it is an
-/// open type.
+/// The type of the values of a field of a class (X.681 14), by the names of the fields that lead to it; none if it is
+/// an open type.
 ///
 /// # Errors
 ///

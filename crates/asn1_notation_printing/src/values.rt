@@ -90,8 +90,8 @@ fn write_elements(
     text.push('}')
 }
 
-/// The components of a list that are there, in a value of the SEQUENCE or SET at an index (X.680 25.18 and 27). The first
-/// component of the value begins at an octet of the text.
+/// The components of a list that are there, in a value of the SEQUENCE or SET at an index (X.680 25.18 and 27). The
+/// first component of the value begins at an octet of the text.
 #[cycle(values)]
 fn write_parts(
     text: &mut String,

@@ -23,7 +23,8 @@ use asn1_table_types::{Presence, TypeNode, Types};
 /// its values in normal form.
 pub fn is_default(presence: &Presence, value: &[Event]) -> bool
     ensures { (ns : List Node) (s : Schema) (v : Value) → has_typed_default s (presence_of presence.now) ≡ true
-        → has_normal_default s (presence_of presence.now) ≡ true → is_lawful s ≡ true → Fits s v → records_of ns value.now ≡ presents s (normal s v)
+        → has_normal_default s (presence_of presence.now) ≡ true → is_lawful s ≡ true → Fits s v
+        → records_of ns value.now ≡ presents s (normal s v)
         → result ≡ is_at_default (presence_of presence.now) s v }
 {
     match presence {
