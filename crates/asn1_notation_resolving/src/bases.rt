@@ -103,8 +103,8 @@ fn field_type(
 ///
 /// # Errors
 ///
-/// Those of a reference to a type (`referenced`) and of a field of a class (`type_of_field`). `ImplicitChoice` at such a
-/// tag, and `Circular` at the type after 64 references and tags.
+/// Those of a reference to a type (`referenced`) and of a field of a class (`type_of_field`). `ImplicitChoice` at such
+/// a tag, and `Circular` at the type after 64 references and tags.
 pub fn base_of<'a>(
     alloc: Global,
     files: &mut Files<'a, '_>,
