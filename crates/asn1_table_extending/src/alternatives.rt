@@ -1,0 +1,53 @@
+//! Whether the alternatives of a CHOICE are those of a newer version (X.680 29).
+use crate::Difference;
+use crate::differences::Fault;
+use crate::pairs::{Pair, add_pair};
+use asn1_table_types::{Alternative, AlternativeTable};
+
+/// The alternatives of the newer CHOICE are those of the older, and then further added ones. Lists the pairs of their
+/// types.
+pub fn check_choice(
+    older: &AlternativeTable,
+    newer: &AlternativeTable,
+    pairs: &mut Vec<Pair>,
+) -> Result<(), Fault> {
+    check_alternatives(older.root.as_slice(), newer.root.as_slice(), false, pairs)?;
+    if older.is_extensible != newer.is_extensible {
+        return Err(Fault::Differs(Difference::Marker));
+    }
+    check_alternatives(
+        older.additions.as_slice(),
+        newer.additions.as_slice(),
+        older.is_extensible,
+        pairs,
+    )
+}
+
+/// The newer alternatives are the older ones, one by one, and then further ones if there may be. Lists the pairs of
+/// their types.
+fn check_alternatives(
+    older: &[Alternative],
+    newer: &[Alternative],
+    may_have_more: bool,
+    pairs: &mut Vec<Pair>,
+) -> Result<(), Fault> {
+    if older.len() > newer.len() {
+        return Err(Fault::Differs(Difference::AlternativeMissing));
+    }
+    if older.len() < newer.len() && !may_have_more {
+        return Err(Fault::Differs(Difference::AlternativeAdded));
+    }
+    for (alternative, other) in older.iter().zip(newer) {
+        if alternative.tag != other.tag {
+            return Err(Fault::Differs(Difference::AlternativeTag));
+        }
+        add_pair(
+            pairs,
+            Pair {
+                older: alternative.place,
+                newer: other.place,
+            },
+        )?;
+    }
+    Ok(())
+}

@@ -1,0 +1,111 @@
+//! Whether constraints, kinds of strings and items are equal.
+use crate::Difference;
+use asn1_schema_constraints::{Bounded, Sizes};
+use asn1_table_types::{CharacterTable, ItemTable, NumberLimits, StringKind, StringTable};
+
+/// The value constraints are equal (X.680 51.4).
+pub fn check_limits(
+    older: Option<NumberLimits>,
+    newer: Option<NumberLimits>,
+) -> Result<(), Difference> {
+    if !are_same_limits(older, newer) {
+        return Err(Difference::Bounds);
+    }
+    Ok(())
+}
+
+/// Whether two value constraints are equal, or both missing.
+fn are_same_limits(older: Option<NumberLimits>, newer: Option<NumberLimits>) -> bool {
+    match (older, newer) {
+        (None, None) => true,
+        (Some(older), Some(newer)) => {
+            are_same_bounds(older.root, newer.root) && older.is_extensible == newer.is_extensible
+        }
+        _ => false,
+    }
+}
+
+/// Whether bounds have the same ends.
+fn are_same_bounds(older: Bounded<i128>, newer: Bounded<i128>) -> bool {
+    older.as_start().copied() == newer.as_start().copied()
+        && older.as_end().copied() == newer.as_end().copied()
+}
+
+/// The size constraints are equal (X.680 51.5).
+pub fn check_sizes(older: Sizes, newer: Sizes) -> Result<(), Difference> {
+    if !are_same_sizes(older, newer) {
+        return Err(Difference::Sizes);
+    }
+    Ok(())
+}
+
+/// Whether two size constraints are equal.
+fn are_same_sizes(older: Sizes, newer: Sizes) -> bool {
+    older.root.minimum() == newer.root.minimum()
+        && older.root.as_end().copied() == newer.root.as_end().copied()
+        && older.is_extensible == newer.is_extensible
+}
+
+/// The strings are of one kind, and their constraints are equal (X.680 41).
+pub fn check_strings(older: &StringTable, newer: &StringTable) -> Result<(), Difference> {
+    if !is_same_kind(older.kind, newer.kind) {
+        return Err(Difference::Kind);
+    }
+    check_sizes(older.sizes, newer.sizes)?;
+    if !is_same_alphabet(&older.alphabet, &newer.alphabet) {
+        return Err(Difference::Alphabet);
+    }
+    Ok(())
+}
+
+/// Whether two permitted alphabets are equal, or both missing.
+fn is_same_alphabet(older: &Option<CharacterTable>, newer: &Option<CharacterTable>) -> bool {
+    match older {
+        None => newer.is_none(),
+        Some(older) => match newer {
+            None => false,
+            Some(newer) => {
+                older.characters.as_slice() == newer.characters.as_slice()
+                    && older.is_extensible == newer.is_extensible
+            }
+        },
+    }
+}
+
+/// Whether two kinds of character strings are one.
+fn is_same_kind(older: StringKind, newer: StringKind) -> bool {
+    match older {
+        StringKind::Numeric => matches!(newer, StringKind::Numeric),
+        StringKind::Printable => matches!(newer, StringKind::Printable),
+        StringKind::Visible => matches!(newer, StringKind::Visible),
+        StringKind::Ia5 => matches!(newer, StringKind::Ia5),
+        StringKind::Bmp => matches!(newer, StringKind::Bmp),
+        StringKind::General => matches!(newer, StringKind::General),
+        StringKind::Graphic => matches!(newer, StringKind::Graphic),
+        StringKind::Teletex => matches!(newer, StringKind::Teletex),
+        StringKind::Utf8 => matches!(newer, StringKind::Utf8),
+    }
+}
+
+/// The root items are equal, and the added items of the older ENUMERATED are the first ones of the newer (X.680 20).
+pub fn check_items(older: &ItemTable, newer: &ItemTable) -> Result<(), Difference> {
+    if older.root.as_slice() != newer.root.as_slice() {
+        return Err(Difference::RootItems);
+    }
+    if older.is_extensible != newer.is_extensible {
+        return Err(Difference::Marker);
+    }
+    if !begins_with(newer.additions.as_slice(), older.additions.as_slice()) {
+        return Err(Difference::AddedItems);
+    }
+    Ok(())
+}
+
+/// Whether items begin with others.
+fn begins_with(items: &[isize], first: &[isize]) -> bool {
+    if first.len() > items.len() {
+        return false;
+    }
+    let beginning = &items[..first.len()];
+    beginning == first
+}

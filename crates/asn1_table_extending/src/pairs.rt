@@ -1,0 +1,30 @@
+//! The pairs of types that are compared.
+use std::alloc::{AllocError, AllocFailed};
+
+/// The places of a type of the older table and of one of the newer.
+#[derive(Clone, Copy, Debug, PartialEq, Eq)]
+pub struct Pair {
+    /// The place in the older table.
+    pub older: usize,
+    /// The place in the newer table.
+    pub newer: usize,
+}
+
+/// Lists a pair, unless it is listed.
+pub fn add_pair(pairs: &mut Vec<Pair>, pair: Pair) -> Result<(), AllocError> {
+    if is_listed(pairs.as_slice(), pair) {
+        return Ok(());
+    }
+    pairs.push(pair)?;
+    Ok(())
+}
+
+/// Whether a pair is listed.
+fn is_listed(pairs: &[Pair], pair: Pair) -> bool {
+    for other in pairs {
+        if other.older == pair.older && other.newer == pair.newer {
+            return true;
+        }
+    }
+    false
+}
