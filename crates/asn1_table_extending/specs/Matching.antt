@@ -108,3 +108,7 @@ module _ (Match : ℕ → ℕ → Type 0) where
 -- The types at a pair of places of two tables match, with all pairs of parts listed.
 abbrev pub PairMatches : List TypeNode → List TypeNode → List Pair → Pair → Type 0
 PairMatches ns ms ps p = BothMatch (IsListed ps) (slice_get ns p.older) (slice_get ms p.newer)
+
+-- Two types without parts.
+abbrev pub ScalarsMatch : TypeNode → TypeNode → Type 0
+ScalarsMatch x y = NodesMatch (λ i j. ⊥) x y

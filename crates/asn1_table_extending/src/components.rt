@@ -1,4 +1,9 @@
 //! Whether the components of a SEQUENCE, a SET or a group of additions are those of a newer version (X.680 25 and 27).
+ghost use Rattle.std.specs.Prelude.{All, Contains, IsTrue, OnOk, ◌≤◌, ◌⊎◌};
+ghost use Rattle.asn1_model.specs.Versions.{Begins};
+ghost use Rattle.asn1_table_extending.specs.Matching.{ComponentMatches, ComponentsMatch, IsListed, PresencesMatch};
+ghost use Rattle.asn1_table_extending.specs.Matching.{TablesMatch};
+
 use crate::Difference;
 use crate::differences::Fault;
 use crate::pairs::{Pair, add_pair};
@@ -10,7 +15,10 @@ pub fn check_table(
     older: &ComponentTable,
     newer: &ComponentTable,
     pairs: &mut Vec<Pair>,
-) -> Result<(), Fault> {
+) -> Result<(), Fault>
+    ensures matches { OnOk result (TablesMatch (IsListed pairs.new.items) older.now newer.now) }
+    ensures kept { OnOk result (Begins pairs.old.items pairs.new.items) }
+{
     check_components(older.root.as_slice(), newer.root.as_slice(), false, pairs)?;
     if older.is_extensible != newer.is_extensible {
         return Err(Fault::Differs(Difference::Marker));
@@ -20,7 +28,8 @@ pub fn check_table(
         newer.additions.as_slice(),
         older.is_extensible,
         pairs,
-    )
+    )?;
+    Ok(())
 }
 
 /// The newer components are the older ones, one by one, and then further ones if there may be. Lists the pairs of their
@@ -30,14 +39,20 @@ pub fn check_components(
     newer: &[Component],
     may_have_more: bool,
     pairs: &mut Vec<Pair>,
-) -> Result<(), Fault> {
-    if older.len() > newer.len() {
-        return Err(Fault::Differs(Difference::ComponentMissing));
-    }
-    if older.len() < newer.len() && !may_have_more {
-        return Err(Fault::Differs(Difference::ComponentAdded));
-    }
-    for (component, other) in older.iter().zip(newer) {
+) -> Result<(), Fault>
+    ensures matches { OnOk result (ComponentsMatch (IsListed pairs.new.items) may_have_more older.now newer.now) }
+    ensures kept { OnOk result (Begins pairs.old.items pairs.new.items) }
+{
+    check_count(
+        older.len(),
+        newer.len(),
+        may_have_more,
+        Difference::ComponentMissing,
+        Difference::ComponentAdded,
+    )?;
+    for index in 0..older.len() {
+        let component = &older[index];
+        let other = &newer[index];
         check_component(component, other)?;
         add_pair(
             pairs,
@@ -50,8 +65,30 @@ pub fn check_components(
     Ok(())
 }
 
+/// There are as many newer ones as older, or more if there may be.
+pub fn check_count(
+    older: usize,
+    newer: usize,
+    may_have_more: bool,
+    missing: Difference,
+    added: Difference,
+) -> Result<(), Difference>
+    ensures enough { OnOk result (older ≤ newer) }
+    ensures as_many { OnOk result (IsTrue may_have_more ⊎ (newer ≤ older)) }
+{
+    if newer < older {
+        return Err(missing);
+    }
+    if !may_have_more && older < newer {
+        return Err(added);
+    }
+    Ok(())
+}
+
 /// The newer component has the tags of the older, and may be absent as that may.
-fn check_component(older: &Component, newer: &Component) -> Result<(), Difference> {
+fn check_component(older: &Component, newer: &Component) -> Result<(), Difference>
+    ensures { OnOk result (ComponentMatches older.now newer.now) }
+{
     if !are_among(older.tags.as_slice(), newer.tags.as_slice()) {
         return Err(Difference::ComponentTags);
     }
@@ -59,7 +96,9 @@ fn check_component(older: &Component, newer: &Component) -> Result<(), Differenc
 }
 
 /// Whether tags are all among others.
-fn are_among(tags: &[Tag], others: &[Tag]) -> bool {
+fn are_among(tags: &[Tag], others: &[Tag]) -> bool
+    ensures { IsTrue result → All (Contains others.now) tags.now }
+{
     for tag in tags {
         if !is_among(*tag, others) {
             return false;
@@ -69,7 +108,9 @@ fn are_among(tags: &[Tag], others: &[Tag]) -> bool {
 }
 
 /// Whether a tag is among others.
-fn is_among(tag: Tag, others: &[Tag]) -> bool {
+fn is_among(tag: Tag, others: &[Tag]) -> bool
+    ensures { IsTrue result → Contains others.now tag }
+{
     for other in others {
         if tag == *other {
             return true;
@@ -79,7 +120,9 @@ fn is_among(tag: Tag, others: &[Tag]) -> bool {
 }
 
 /// Both components are always there, or both are OPTIONAL, or both have the same default.
-fn check_presence(older: &Presence, newer: &Presence) -> Result<(), Difference> {
+fn check_presence(older: &Presence, newer: &Presence) -> Result<(), Difference>
+    ensures { OnOk result (PresencesMatch older.now newer.now) }
+{
     match (older, newer) {
         (Presence::Required, Presence::Required) => Ok(()),
         (Presence::Optional, Presence::Optional) => Ok(()),

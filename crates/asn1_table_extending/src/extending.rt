@@ -1,4 +1,10 @@
 //! Whether a type of one table is a newer version of a type of another, however deep both are unfolded.
+ghost use Rattle.std.specs.Prelude.{◌≡◌, ℕ, OnOk};
+ghost use Rattle.asn1_model.specs.Versions.{Begins, Extends};
+ghost use Rattle.asn1_schema_constraints.specs.Terms.{size_of};
+ghost use Rattle.asn1_table_types.specs.Meaning.{type_at};
+ghost use Rattle.asn1_table_extending.specs.Matching.{IsListed, NodesMatch, PairMatches, ScalarsMatch};
+
 use crate::alternatives::check_choice;
 use crate::components::{check_components, check_table};
 use crate::constraints::{check_items, check_limits, check_sizes, check_strings};
@@ -23,7 +29,10 @@ pub fn check_extends(
     new_place: usize,
     older: &Types,
     old_place: usize,
-) -> Result<(), ExtendingError> {
+) -> Result<(), ExtendingError>
+    ensures extends { OnOk result ((n : ℕ) → Extends (type_at older.now.nodes.items n old_place)
+        (type_at newer.now.nodes.items n new_place)) }
+{
     let first = Pair {
         older: old_place,
         newer: new_place,
@@ -34,9 +43,7 @@ pub fn check_extends(
     let mut next = 0;
     while next < pairs.len() {
         let pair = pairs[next];
-        if let Err(fault) = check_pair(older.nodes(), newer.nodes(), pair, &mut pairs) {
-            return Err(error_at(pair, fault));
-        }
+        check_pair(older, newer, pair, &mut pairs)?;
         next += 1;
     }
     Ok(())
@@ -56,12 +63,31 @@ fn error_at(pair: Pair, fault: Fault) -> ExtendingError {
 
 /// Compares the types of a pair, apart from the types of their parts. Lists the pairs of these.
 fn check_pair(
-    older: &[TypeNode],
-    newer: &[TypeNode],
+    older: &Types,
+    newer: &Types,
     pair: Pair,
     pairs: &mut Vec<Pair>,
-) -> Result<(), Fault> {
-    match (older.get(pair.older), newer.get(pair.newer)) {
+) -> Result<(), ExtendingError>
+    ensures matches { OnOk result (PairMatches older.now.nodes.items newer.now.nodes.items pairs.new.items pair) }
+    ensures kept { OnOk result (Begins pairs.old.items pairs.new.items) }
+{
+    match check_places(older, newer, pair, pairs) {
+        Ok(()) => Ok(()),
+        Err(fault) => Err(error_at(pair, fault)),
+    }
+}
+
+/// The same, without the places in the error.
+fn check_places(
+    older: &Types,
+    newer: &Types,
+    pair: Pair,
+    pairs: &mut Vec<Pair>,
+) -> Result<(), Fault>
+    ensures matches { OnOk result (PairMatches older.now.nodes.items newer.now.nodes.items pairs.new.items pair) }
+    ensures kept { OnOk result (Begins pairs.old.items pairs.new.items) }
+{
+    match (older.node(pair.older), newer.node(pair.newer)) {
         (None, None) => Ok(()),
         (Some(node), Some(other)) => check_node(node, other, pairs),
         _ => Err(Fault::Differs(Difference::Place)),
@@ -69,7 +95,10 @@ fn check_pair(
 }
 
 /// The same of two types.
-fn check_node(older: &TypeNode, newer: &TypeNode, pairs: &mut Vec<Pair>) -> Result<(), Fault> {
+fn check_node(older: &TypeNode, newer: &TypeNode, pairs: &mut Vec<Pair>) -> Result<(), Fault>
+    ensures matches { OnOk result (NodesMatch (IsListed pairs.new.items) older.now newer.now) }
+    ensures kept { OnOk result (Begins pairs.old.items pairs.new.items) }
+{
     match (older, newer) {
         (TypeNode::SequenceOf(sizes, place), TypeNode::SequenceOf(others, other)) => {
             check_list(*sizes, *place, *others, *other, pairs)
@@ -97,7 +126,11 @@ fn check_list(
     others: Sizes,
     other: usize,
     pairs: &mut Vec<Pair>,
-) -> Result<(), Fault> {
+) -> Result<(), Fault>
+    ensures sizes { OnOk result (size_of sizes ≡ size_of others) }
+    ensures listed { OnOk result (IsListed pairs.new.items place other) }
+    ensures kept { OnOk result (Begins pairs.old.items pairs.new.items) }
+{
     check_sizes(sizes, others)?;
     add_pair(
         pairs,
@@ -110,7 +143,9 @@ fn check_list(
 }
 
 /// Two types without parts are of one kind and have the same constraints.
-fn check_scalar(older: &TypeNode, newer: &TypeNode) -> Result<(), Difference> {
+fn check_scalar(older: &TypeNode, newer: &TypeNode) -> Result<(), Difference>
+    ensures { OnOk result (ScalarsMatch older.now newer.now) }
+{
     match (older, newer) {
         (TypeNode::Boolean, TypeNode::Boolean) => Ok(()),
         (TypeNode::Null, TypeNode::Null) => Ok(()),
