@@ -1,10 +1,10 @@
 -- Where all listed pairs of types match, each newer type extends the older one, however deep both are unfolded.
-use Rattle.std.proofs.Common.{◌≡◌, ℕ, zero, suc, ◌+◌, ◌<◌, ◌≤◌, ◌⊎◌, inl, inr, Bool, true, false, ◌&&◌, List, [], ◌∷◌, ◌++◌, length, get_or, drop, map, Option, Some, None, All, Contains, slice_get, refl, ap, sym, ◌∙◌, subst, append_assoc, Result, Ok, Err, OnOk, arith}
-use Rattle.std.proofs.lemmas.Bool.{and_parts, false≢true}
+use Rattle.std.proofs.Common.{◌≡◌, ℕ, zero, suc, ◌+◌, ◌<◌, ◌≤◌, ◌⊎◌, inl, inr, Bool, true, false, ◌&&◌, List, [], ◌∷◌, ◌++◌, length, get_or, take, drop, map, Option, Some, None, All, Contains, slice_get, refl, ap, sym, ◌∙◌, subst, append_assoc, length-append, Result, Ok, Err, OnOk, arith}
+use Rattle.std.proofs.lemmas.Bool.{and_parts, cases_lt, false≢true}
 use Rattle.std.proofs.lemmas.Option.{slice_get-get_or}
-use Rattle.std.proofs.lemmas.List.{length-map, drop_more, drop_all}
+use Rattle.std.proofs.lemmas.List.{length-map, drop_more, drop_all, append-nil, take-append-drop}
 use Rattle.std.proofs.lemmas.List.Elements.{All-map, Contains-append_left}
-use Rattle.std.proofs.Math.ListN.{get_or-map}
+use Rattle.std.proofs.Math.ListN.{get_or-map, get_or-append}
 use Rattle.asn1_model.specs.Value.{Value, same}
 use Rattle.asn1_model.specs.Schema.{Schema, Presence as ModelPresence}
 use Rattle.asn1_model.specs.Lawful.{is_lawful, are_lawful, has_typed_default}
@@ -209,12 +209,13 @@ components_next qs more cs ds i c d l e k f m h rest =
     let Q : List Component → Type 0 = λ ys. ComponentsMatch (IsListed qs) more (c ∷ drop (i + 1) cs) ys in
     subst P (sym (at_place cs i c l e)) (subst Q (sym (at_place ds i d k f)) (m, h, rest))
 
-pub alternatives_next : (qs : List Pair) (more : Bool) (cs ds : List Alternative) (i : ℕ) (c d : Alternative) → i < length cs → c ≡ get_or cs i c → i < length ds → d ≡ get_or ds i d →
-    c.tag ≡ d.tag → IsListed qs c.place d.place → AlternativesMatch (IsListed qs) more (drop (i + 1) cs) (drop (i + 1) ds) → AlternativesMatch (IsListed qs) more (drop i cs) (drop i ds)
-alternatives_next qs more cs ds i c d l e k f m h rest =
+pub alternatives_next : (qs : List Pair) (more : Bool) (cs ds : List Alternative) (i : ℕ) (x y : Alternative) → i < length cs → i < length ds →
+    (get_or cs i x).tag ≡ (get_or ds i y).tag → IsListed qs (get_or cs i x).place (get_or ds i y).place →
+    AlternativesMatch (IsListed qs) more (drop (i + 1) cs) (drop (i + 1) ds) → AlternativesMatch (IsListed qs) more (drop i cs) (drop i ds)
+alternatives_next qs more cs ds i x y l k m h rest =
     let P : List Alternative → Type 0 = λ xs. AlternativesMatch (IsListed qs) more xs (drop i ds) in
-    let Q : List Alternative → Type 0 = λ ys. AlternativesMatch (IsListed qs) more (c ∷ drop (i + 1) cs) ys in
-    subst P (sym (at_place cs i c l e)) (subst Q (sym (at_place ds i d k f)) (m, h, rest))
+    let Q : List Alternative → Type 0 = λ ys. AlternativesMatch (IsListed qs) more (get_or cs i x ∷ drop (i + 1) cs) ys in
+    subst P (sym (drop_more cs i x l)) (subst Q (sym (drop_more ds i y k)) (m, h, rest))
 
 may_follow : {X : Type 0} (more : Bool) (xs : List X) → (more ≡ true) ⊎ (xs ≡ []) → MayFollow more xs
 may_follow true xs h = tt
@@ -239,6 +240,51 @@ alternatives_end qs more cs ds i l h =
 -- ---- types without parts
 pub scalars_listed : (qs : List Pair) (x y : TypeNode) → ScalarsMatch x y → NodesMatch (IsListed qs) x y
 scalars_listed qs x y m = both_more (λ i j. ⊥) (IsListed qs) (λ i j h. absurd h) (Some x) (Some y) m
+
+-- ---- at equal lists
+pub components_at : (qs : List Pair) (more : Bool) (xs ys us vs : List Component) → xs ≡ us → ys ≡ vs → ComponentsMatch (IsListed qs) more xs ys → ComponentsMatch (IsListed qs) more us vs
+components_at qs more xs ys us vs e f m =
+    let P : List Component → Type 0 = λ zs. ComponentsMatch (IsListed qs) more zs ys in
+    let Q : List Component → Type 0 = λ zs. ComponentsMatch (IsListed qs) more us zs in
+    subst Q f (subst P e m)
+
+pub alternatives_at : (qs : List Pair) (more : Bool) (xs ys us vs : List Alternative) → xs ≡ us → ys ≡ vs → AlternativesMatch (IsListed qs) more xs ys → AlternativesMatch (IsListed qs) more us vs
+alternatives_at qs more xs ys us vs e f m =
+    let P : List Alternative → Type 0 = λ zs. AlternativesMatch (IsListed qs) more zs ys in
+    let Q : List Alternative → Type 0 = λ zs. AlternativesMatch (IsListed qs) more us zs in
+    subst Q f (subst P e m)
+
+pub begins_itself : {X : Type 0} (xs : List X) → Begins xs xs
+begins_itself xs = ([], append-nil xs)
+
+pub begins_at : {X : Type 0} (xs ys us vs : List X) → xs ≡ us → ys ≡ vs → Begins xs ys → Begins us vs
+begins_at xs ys us vs e f b = (b.0, ap (λ zs. zs ++ b.0) (sym e) ∙ b.1 ∙ f)
+
+pub begins_by : {X : Type 0} (xs ys : List X) (k : ℕ) → take k ys ≡ xs → Begins xs ys
+begins_by xs ys k e = (drop k ys, ap (λ zs. zs ++ drop k ys) (sym e) ∙ take-append-drop k ys)
+
+-- ---- one more pair
+same_place : (ps zs : List Pair) (k : ℕ) (d : Pair) → k < length ps → slice_get (ps ++ zs) k ≡ slice_get ps k
+same_place ps zs k d l =
+    let n : length (ps ++ zs) ≡ length ps + length zs = length-append ps zs in
+    slice_get-get_or (ps ++ zs) k d (omega (arith, l, n)) ∙ ap Some (get_or-append ps zs d k l) ∙ sym (slice_get-get_or ps k d l)
+
+some_is : {X : Type 0} {x y : X} → Some x ≡ Some y → x ≡ y
+some_is e = cc
+
+pub matched_next : (ns ms : List TypeNode) (ps qs : List Pair) (n : ℕ) (d : Pair) → Begins ps qs → n < length ps →
+    ((k : ℕ) (p : Pair) → k < n → slice_get ps k ≡ Some p → PairMatches ns ms ps p) → PairMatches ns ms qs (get_or ps n d) →
+    (k : ℕ) (p : Pair) → k < n + 1 → slice_get qs k ≡ Some p → PairMatches ns ms qs p
+matched_next ns ms ps qs n d b l m x k p h e = go (cases_lt k n) where
+  at : k < length ps → slice_get ps k ≡ Some p
+  at j = sym (same_place ps b.0 k d j) ∙ ap (λ us. slice_get us k) b.1 ∙ e
+  go : (k < n) ⊎ (n ≤ k) → PairMatches ns ms qs p
+  go (inl j) = pair_more ns ms ps qs p b (m k p j (at (omega (arith, l, j))))
+  go (inr j) =
+      let i : n ≡ k = omega (arith, h, j) in
+      let f : get_or ps n d ≡ p = some_is (sym (slice_get-get_or ps n d l) ∙ ap (λ u. slice_get ps u) i ∙ at (omega (arith, l, h, j))) in
+      let P : Pair → Type 0 = λ q. PairMatches ns ms qs q in
+      subst P f x
 
 -- ---- the end
 pub all_match : (ns ms : List TypeNode) (ps : List Pair) (n : ℕ) → length ps ≤ n →

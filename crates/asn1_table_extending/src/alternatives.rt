@@ -4,7 +4,8 @@ ghost use Rattle.asn1_model.specs.Versions.{Begins};
 ghost use Rattle.asn1_table_extending.specs.Matching.{AlternativesMatch, ChoicesMatch, IsListed};
 
 use crate::Difference;
-use crate::components::check_count;
+use crate::components::{check_count, is_same_tag};
+use crate::constraints::is_same_marker;
 use crate::differences::Fault;
 use crate::pairs::{Pair, add_pair};
 use asn1_table_types::{Alternative, AlternativeTable};
@@ -20,7 +21,7 @@ pub fn check_choice(
     ensures kept { OnOk result (Begins pairs.old.items pairs.new.items) }
 {
     check_alternatives(older.root.as_slice(), newer.root.as_slice(), false, pairs)?;
-    if older.is_extensible != newer.is_extensible {
+    if !is_same_marker(older.is_extensible, newer.is_extensible) {
         return Err(Fault::Differs(Difference::Marker));
     }
     check_alternatives(
@@ -53,7 +54,7 @@ fn check_alternatives(
     for index in 0..older.len() {
         let alternative = older[index];
         let other = newer[index];
-        if alternative.tag != other.tag {
+        if !is_same_tag(alternative.tag, other.tag) {
             return Err(Fault::Differs(Difference::AlternativeTag));
         }
         add_pair(

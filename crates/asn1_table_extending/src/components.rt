@@ -1,10 +1,11 @@
 //! Whether the components of a SEQUENCE, a SET or a group of additions are those of a newer version (X.680 25 and 27).
-ghost use Rattle.std.specs.Prelude.{All, Contains, IsTrue, OnOk, ◌≤◌, ◌⊎◌};
+ghost use Rattle.std.specs.Prelude.{◌≡◌, All, Contains, IsTrue, OnOk, ◌≤◌, ◌⊎◌};
 ghost use Rattle.asn1_model.specs.Versions.{Begins};
 ghost use Rattle.asn1_table_extending.specs.Matching.{ComponentMatches, ComponentsMatch, IsListed, PresencesMatch};
 ghost use Rattle.asn1_table_extending.specs.Matching.{TablesMatch};
 
 use crate::Difference;
+use crate::constraints::is_same_marker;
 use crate::differences::Fault;
 use crate::pairs::{Pair, add_pair};
 use asn1_schema_tags::Tag;
@@ -20,7 +21,7 @@ pub fn check_table(
     ensures kept { OnOk result (Begins pairs.old.items pairs.new.items) }
 {
     check_components(older.root.as_slice(), newer.root.as_slice(), false, pairs)?;
-    if older.is_extensible != newer.is_extensible {
+    if !is_same_marker(older.is_extensible, newer.is_extensible) {
         return Err(Fault::Differs(Difference::Marker));
     }
     check_components(
@@ -112,11 +113,18 @@ fn is_among(tag: Tag, others: &[Tag]) -> bool
     ensures { IsTrue result → Contains others.now tag }
 {
     for other in others {
-        if tag == *other {
+        if is_same_tag(tag, *other) {
             return true;
         }
     }
     false
+}
+
+/// Whether two tags are one (X.680 8).
+pub fn is_same_tag(tag: Tag, other: Tag) -> bool
+    ensures { IsTrue result → tag ≡ other }
+{
+    tag == other
 }
 
 /// Both components are always there, or both are OPTIONAL, or both have the same default.

@@ -114,16 +114,30 @@ fn is_same_kind(older: StringKind, newer: StringKind) -> bool
 pub fn check_items(older: &ItemTable, newer: &ItemTable) -> Result<(), Difference>
     ensures { OnOk result (ItemsMatch older.now newer.now) }
 {
-    if older.root.as_slice() != newer.root.as_slice() {
+    if !are_same_items(older.root.as_slice(), newer.root.as_slice()) {
         return Err(Difference::RootItems);
     }
-    if older.is_extensible != newer.is_extensible {
+    if !is_same_marker(older.is_extensible, newer.is_extensible) {
         return Err(Difference::Marker);
     }
     if !begins_with(newer.additions.as_slice(), older.additions.as_slice()) {
         return Err(Difference::AddedItems);
     }
     Ok(())
+}
+
+/// Whether there are extension markers in both, or in neither (X.680 52).
+pub fn is_same_marker(older: bool, newer: bool) -> bool
+    ensures { IsTrue result → older ≡ newer }
+{
+    older == newer
+}
+
+/// Whether items are equal.
+fn are_same_items(older: &[isize], newer: &[isize]) -> bool
+    ensures { IsTrue result → older.now ≡ newer.now }
+{
+    older == newer
 }
 
 /// Whether items begin with others.
