@@ -65,13 +65,13 @@ module _ (Match : ℕ → ℕ → Type 0) (f g : ℕ → Schema) (k : (i j : ℕ
       let c' = and_parts _ _ c in
       let d' = and_parts _ _ d in
       let e = k x.place y.place m.1 in (
-      all_among tag_of x.tags.items y.tags.items m.0.0,
-      keeps (f x.place) (g y.place) x.presence y.presence m.0.1 e
-          (record { is_typed = (and_parts _ _ ((and_parts _ _ a'.0).0)).1; is_reduced = (and_parts _ _ b'.0).0 })
-          (record { is_typed = (and_parts _ _ ((and_parts _ _ c'.0).0)).1; is_reduced = (and_parts _ _ d'.0).0 }),
-      e,
-      components_extend more cs ds m.2 a'.1 b'.1 c'.1 d'.1,
-  )
+        all_among tag_of x.tags.items y.tags.items m.0.0,
+        keeps (f x.place) (g y.place) x.presence y.presence m.0.1 e
+            (record { is_typed = (and_parts _ _ ((and_parts _ _ a'.0).0)).1; is_reduced = (and_parts _ _ b'.0).0 })
+            (record { is_typed = (and_parts _ _ ((and_parts _ _ c'.0).0)).1; is_reduced = (and_parts _ _ d'.0).0 }),
+        e,
+        components_extend more cs ds m.2 a'.1 b'.1 c'.1 d'.1,
+      )
 
   alternatives_extend : (more : Bool) (cs ds : List Alternative) → AlternativesMatch Match more cs ds → ExtendsAlternatives more (alternatives_of f cs) (alternatives_of g ds)
   unfolding ExtendsAlternatives
@@ -106,25 +106,25 @@ module _ (Match : ℕ → ℕ → Type 0) (ns ms : List TypeNode) (n : ℕ) (k :
       let d = and_parts _ _ b.lawful in
       let v = and_parts _ _ a.tidy in
       let w = and_parts _ _ b.tidy in (
-      components_extend Match (type_at ns n) (type_at ms n) k false t.root.items u.root.items m.0 (and_parts _ _ c.0).1 v.0 (and_parts _ _ d.0).1 w.0,
-      m.1,
-      components_extend Match (type_at ns n) (type_at ms n) k t.is_extensible t.additions.items u.additions.items m.2 c.1 v.1 d.1 w.1,
-  )
+        components_extend Match (type_at ns n) (type_at ms n) k false t.root.items u.root.items m.0 (and_parts _ _ c.0).1 v.0 (and_parts _ _ d.0).1 w.0,
+        m.1,
+        components_extend Match (type_at ns n) (type_at ms n) k t.is_extensible t.additions.items u.additions.items m.2 c.1 v.1 d.1 w.1,
+      )
   node_extends (Some (node.Set t)) (Some (node.Set u)) m a b =
       let c = and_parts _ _ a.lawful in
       let d = and_parts _ _ b.lawful in
       let v = and_parts _ _ a.tidy in
       let w = and_parts _ _ b.tidy in (
-      components_extend Match (type_at ns n) (type_at ms n) k false t.root.items u.root.items m.0 (and_parts _ _ c.0).1 v.0 (and_parts _ _ d.0).1 w.0,
-      m.1,
-      components_extend Match (type_at ns n) (type_at ms n) k t.is_extensible t.additions.items u.additions.items m.2 c.1 v.1 d.1 w.1,
-  )
+        components_extend Match (type_at ns n) (type_at ms n) k false t.root.items u.root.items m.0 (and_parts _ _ c.0).1 v.0 (and_parts _ _ d.0).1 w.0,
+        m.1,
+        components_extend Match (type_at ns n) (type_at ms n) k t.is_extensible t.additions.items u.additions.items m.2 c.1 v.1 d.1 w.1,
+      )
   node_extends (Some (node.Group cs)) (Some (node.Group ds)) m a b =
       components_extend Match (type_at ns n) (type_at ms n) k false cs.items ds.items m (and_parts _ _ a.lawful).1 a.tidy (and_parts _ _ b.lawful).1 b.tidy
   node_extends (Some (node.Choice t)) (Some (node.Choice u)) m a b = (
-      alternatives_extend Match (type_at ns n) (type_at ms n) k false t.root.items u.root.items m.0,
-      m.1,
-      alternatives_extend Match (type_at ns n) (type_at ms n) k t.is_extensible t.additions.items u.additions.items m.2,
+    alternatives_extend Match (type_at ns n) (type_at ms n) k false t.root.items u.root.items m.0,
+    m.1,
+    alternatives_extend Match (type_at ns n) (type_at ms n) k t.is_extensible t.additions.items u.additions.items m.2,
   )
   node_extends o p m a b = absurd m
 
@@ -278,6 +278,7 @@ pub matched_next : (ns ms : List TypeNode) (ps qs : List Pair) (n : ℕ) (d : Pa
 matched_next ns ms ps qs n d b l m x k p h e = go (cases_lt k n) where
   at : k < length ps → slice_get ps k ≡ Some p
   at j = sym (same_place ps b.0 k d j) ∙ ap (λ us. slice_get us k) b.1 ∙ e
+
   go : (k < n) ⊎ (n ≤ k) → PairMatches ns ms qs p
   go (inl j) = pair_more ns ms ps qs p b (m k p j (at (omega (arith, l, j))))
   go (inr j) =

@@ -39,6 +39,7 @@ taken f q (member w ws) rest b e = go (f w) refl e (λ us h. taken f q ws us y.1
   where
     y : (q w ≡ true) × (are_all q ws ≡ true)
     y = and_parts (q w) (are_all q ws) b
+
     go : (t : Bool) → f w ≡ t → cond t (Some ws) (option_map (λ us. member w us) (taken_out f ws)) ≡ Some rest →
         ((us : Values) → taken_out f ws ≡ Some us → (u : Value) × (f u ≡ true) × (q u ≡ true) × (are_all q us ≡ true)) →
         (u : Value) × (f u ≡ true) × (q u ≡ true) × (are_all q rest ≡ true)

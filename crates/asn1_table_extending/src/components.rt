@@ -11,7 +11,8 @@ use crate::pairs::{Pair, add_pair};
 use asn1_schema_tags::Tag;
 use asn1_table_types::{Component, ComponentTable, Presence, is_same_value};
 
-/// The components of the newer table are those of the older, and then further additions. Lists the pairs of their types.
+/// The components of the newer table are those of the older, and then further additions. Lists the pairs of their
+/// types.
 pub fn check_table(
     older: &ComponentTable,
     newer: &ComponentTable,

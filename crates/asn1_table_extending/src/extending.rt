@@ -15,14 +15,17 @@ use asn1_schema_constraints::Sizes;
 use asn1_table_types::{TypeNode, Types};
 use std::alloc::Global;
 
-/// The type at the place `new_place` of one table is a newer version of that at `old_place` of another: of the same kind
-/// and with the same constraints, tags, defaults and parts, with further components, alternatives and items only after
-/// extension markers (X.680 52). Each pair of types to which these lead is compared once, and looked up among those
-/// compared so far, so `n` such pairs take up to `n * n` steps.
+/// The type at the place `new_place` of one table is a newer version of that at `old_place` of another, however deep
+/// both are unfolded: of the same kind, and with the same constraints, tags, defaults and parts, with further
+/// components, alternatives and items only after extension markers (X.680 52). A default of a SEQUENCE or SET with
+/// further additions counts as another default, also where these are absent in it.
+///
+/// Each pair of types to which the two lead is compared once, and looked up among those listed so far: `n` such pairs
+/// take up to `n * n` steps.
 ///
 /// # Errors
 ///
-/// `NotExtended` with the places of two types that differ, or `OutOfMemory`.
+/// `NotExtended` with the places of two types that differ, and how; `OutOfMemory`.
 pub fn check_extends(
     alloc: Global,
     newer: &Types,
