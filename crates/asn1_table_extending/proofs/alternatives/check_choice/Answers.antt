@@ -1,3 +1,4 @@
+use Rattle.std.proofs.Common.{false}
 use Rattle.asn1_table_extending.proofs.Matched.{alternatives_at, alternatives_listed}
 use Rattle.asn1_table_extending.proofs.alternatives.check_choice.Goals as goal
 

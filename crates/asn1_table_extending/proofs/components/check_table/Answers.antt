@@ -1,3 +1,4 @@
+use Rattle.std.proofs.Common.{false}
 use Rattle.asn1_table_extending.proofs.Matched.{components_at, components_listed}
 use Rattle.asn1_table_extending.proofs.components.check_table.Goals as goal
 

@@ -10,7 +10,7 @@ loop-next-preserved c =
     let qs = c.check_pair.new.pairs.items in
     record {
       first = listed_more ps qs c.args.old_place c.args.new_place c.in_ok-check_pair.ensures.kept c.loop-next.invariant.first;
-      matched = matched_next ns ms ps qs c.loop-next.next _ c.in_ok-check_pair.ensures.kept c.loop-next-test.true c.loop-next.invariant.matched c.in_ok-check_pair.ensures.matches;
+      matched = matched_next ns ms ps qs c.loop-next.next _ c.in_ok-check_pair.ensures.kept (omega (arith, c.loop-next-test.true, c.len.ensures)) c.loop-next.invariant.matched c.in_ok-check_pair.ensures.matches;
     }
 
 pub returns : goal.returns
@@ -18,5 +18,7 @@ returns c =
     let o = c.args.older.now in
     let w = c.args.newer.now in
     let ps = c.loop-next.pairs.items in
-    λ n. all_extend o.nodes.items w.nodes.items o.lawful o.tidy w.lawful w.tidy ps
-    (all_match o.nodes.items w.nodes.items ps c.loop-next.next c.loop-next-test.false c.loop-next.invariant.matched) n c.args.old_place c.args.new_place c.loop-next.invariant.first
+    record {
+      extends = λ n. all_extend o.nodes.items w.nodes.items o.lawful o.tidy w.lawful w.tidy ps
+          (all_match o.nodes.items w.nodes.items ps c.loop-next.next (omega (arith, c.loop-next-test.false, c.len.ensures)) c.loop-next.invariant.matched) n c.args.old_place c.args.new_place c.loop-next.invariant.first;
+    }
