@@ -13,7 +13,7 @@ fn table(alloc: Global, assignments: &str) -> Option<Table> {
     )
     .ok()?;
     let syntax = read_syntax(alloc, text.as_bytes()).ok()?;
-    table_of(alloc, &[syntax], None, "T", Additions::MayBeAbsent).ok()
+    table_of(alloc, &[syntax], None, "T", Additions::MayBeAbsent.into()).ok()
 }
 
 /// What the check of the newer type T against the older one says, if both have tables.
