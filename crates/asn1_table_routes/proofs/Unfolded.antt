@@ -25,30 +25,30 @@ module _ (ns : List TypeNode) where
   cut_agrees : (i j : ℕ) (o : Option TypeNode) → AgreesTo zero (type_of ns i o) (type_of ns j o)
   unfolding AgreesTo
   cut_agrees i j None = inr refl
-  cut_agrees zero zero (Some (node.SequenceOf z p)) = inl tt
-  cut_agrees zero (suc j) (Some (node.SequenceOf z p)) = inl tt
-  cut_agrees (suc i) zero (Some (node.SequenceOf z p)) = inl tt
-  cut_agrees (suc i) (suc j) (Some (node.SequenceOf z p)) = inl tt
-  cut_agrees zero zero (Some (node.SetOf z p)) = inl tt
-  cut_agrees zero (suc j) (Some (node.SetOf z p)) = inl tt
-  cut_agrees (suc i) zero (Some (node.SetOf z p)) = inl tt
-  cut_agrees (suc i) (suc j) (Some (node.SetOf z p)) = inl tt
-  cut_agrees zero zero (Some (node.Sequence t)) = inl tt
-  cut_agrees zero (suc j) (Some (node.Sequence t)) = inl tt
-  cut_agrees (suc i) zero (Some (node.Sequence t)) = inl tt
-  cut_agrees (suc i) (suc j) (Some (node.Sequence t)) = inl tt
-  cut_agrees zero zero (Some (node.Set t)) = inl tt
-  cut_agrees zero (suc j) (Some (node.Set t)) = inl tt
-  cut_agrees (suc i) zero (Some (node.Set t)) = inl tt
-  cut_agrees (suc i) (suc j) (Some (node.Set t)) = inl tt
-  cut_agrees zero zero (Some (node.Group cs)) = inl tt
-  cut_agrees zero (suc j) (Some (node.Group cs)) = inl tt
-  cut_agrees (suc i) zero (Some (node.Group cs)) = inl tt
-  cut_agrees (suc i) (suc j) (Some (node.Group cs)) = inl tt
-  cut_agrees zero zero (Some (node.Choice t)) = inl tt
-  cut_agrees zero (suc j) (Some (node.Choice t)) = inl tt
-  cut_agrees (suc i) zero (Some (node.Choice t)) = inl tt
-  cut_agrees (suc i) (suc j) (Some (node.Choice t)) = inl tt
+  cut_agrees zero zero (Some (node.SequenceOf z p)) = inl refl
+  cut_agrees zero (suc j) (Some (node.SequenceOf z p)) = inl refl
+  cut_agrees (suc i) zero (Some (node.SequenceOf z p)) = inl refl
+  cut_agrees (suc i) (suc j) (Some (node.SequenceOf z p)) = inl refl
+  cut_agrees zero zero (Some (node.SetOf z p)) = inl refl
+  cut_agrees zero (suc j) (Some (node.SetOf z p)) = inl refl
+  cut_agrees (suc i) zero (Some (node.SetOf z p)) = inl refl
+  cut_agrees (suc i) (suc j) (Some (node.SetOf z p)) = inl refl
+  cut_agrees zero zero (Some (node.Sequence t)) = inl refl
+  cut_agrees zero (suc j) (Some (node.Sequence t)) = inl refl
+  cut_agrees (suc i) zero (Some (node.Sequence t)) = inl refl
+  cut_agrees (suc i) (suc j) (Some (node.Sequence t)) = inl refl
+  cut_agrees zero zero (Some (node.Set t)) = inl refl
+  cut_agrees zero (suc j) (Some (node.Set t)) = inl refl
+  cut_agrees (suc i) zero (Some (node.Set t)) = inl refl
+  cut_agrees (suc i) (suc j) (Some (node.Set t)) = inl refl
+  cut_agrees zero zero (Some (node.Group cs)) = inl refl
+  cut_agrees zero (suc j) (Some (node.Group cs)) = inl refl
+  cut_agrees (suc i) zero (Some (node.Group cs)) = inl refl
+  cut_agrees (suc i) (suc j) (Some (node.Group cs)) = inl refl
+  cut_agrees zero zero (Some (node.Choice t)) = inl refl
+  cut_agrees zero (suc j) (Some (node.Choice t)) = inl refl
+  cut_agrees (suc i) zero (Some (node.Choice t)) = inl refl
+  cut_agrees (suc i) (suc j) (Some (node.Choice t)) = inl refl
   cut_agrees i j (Some x) = inr refl
 
   -- one more level

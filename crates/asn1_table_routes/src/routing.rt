@@ -5,15 +5,15 @@ ghost use Rattle.asn1_relay_core.specs.Routing.{Outcome, Answers, Comes, IsReach
 ghost use Rattle.asn1_relay_core.specs.Routing.{IsOrLacksMemory, NamesMemoryAlone, NamesNoEarlierRefusal};
 ghost use Rattle.asn1_relay_core.specs.Routing.{NamesNoMisplacedCall, NamesNoPlatformSize};
 ghost use Rattle.asn1_relay_core.specs.Routing.{answer_of_hop, outcome_of};
-ghost use Rattle.asn1_table_routes.specs.Schemas.{older_of, newer_of};
+ghost use Rattle.asn1_table_routes.specs.Schemas.{IsNewer, older_of, newer_of};
 
 use crate::Versions;
 use asn1_relay_core::{Codec, Hop, RouteFault, RouteFaultKind, Version};
 use asn1_table_relay::recode_by;
 use std::alloc::Global;
 
-/// Sends a message from hop to hop, as `route` of `asn1_relay_core` does, where a hop uses one of two types of tables.
-/// What is said there holds here.
+/// Sends a message from hop to hop, as `route` of `asn1_relay_core` does, where a hop uses one of two types of tables of
+/// which one is a newer version of the other (`Versions::new`). What is said there holds here.
 ///
 /// # Errors
 ///
@@ -25,7 +25,8 @@ pub fn route_by(
     from: Codec,
     input: &[u8],
 ) -> Result<Vec<u8>, RouteFault>
-    requires { hops.now ≢ [] }
+    requires some { hops.now ≢ [] }
+    requires newer { IsNewer versions.now }
     ensures right { IfSome (outcome_of result)
         (Comes (older_of versions.now) (newer_of versions.now) from hops.now input.now) }
     ensures exact { (o : Outcome) → Comes (older_of versions.now) (newer_of versions.now) from hops.now input.now o

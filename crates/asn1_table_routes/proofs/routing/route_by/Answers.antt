@@ -12,7 +12,7 @@ pub returns-in_err-octets-clause-right : goal.returns-in_err-octets-clause-right
 returns-in_err-octets-clause-right c =
     let old = older_of c.args.versions.now 128 in
     let new = newer_of c.args.versions.now 128 in
-    refused_there old new c.args.from c.args.hops.now c.args.input.now c.args.from c.args.input.now 0 (some_hop c.args.hops.now c.requires)
+    refused_there old new c.args.from c.args.hops.now c.args.input.now c.args.from c.args.input.now 0 (some_hop c.args.hops.now c.requires.some)
     (nothing_passed old new c.args.from c.args.hops.now c.args.input.now) c.args.input.now refl c.from_residual.result c.in_err-octets.field-0.0
     c.from_residual.ensures.1 c.in_err-octets.ensures.named c.in_err-octets.ensures.right
 
@@ -30,15 +30,15 @@ returns-in_err-octets-clause-told c = λ n u h.
     let v = c.args.versions.now in
     let k = old_lawful v in
     let l = new_lawful v in
-    is_told (older_of v) (newer_of v) k l (old_tidy v) (new_tidy v) (extends v) (old_unfolds v) (new_unfolds v)
-    (rules_of c.args.from) (hops_of c.args.hops.now) c.args.input.now (some_model_hop c.args.hops.now c.requires) n u h (outcome_of c.from_residual.result) (returns-in_err-octets-clause-right c)
+    is_told (older_of v) (newer_of v) k l (old_tidy v) (new_tidy v) (extends v c.requires.newer) (old_unfolds v) (new_unfolds v)
+    (rules_of c.args.from) (hops_of c.args.hops.now) c.args.input.now (some_model_hop c.args.hops.now c.requires.some) n u h (outcome_of c.from_residual.result) (returns-in_err-octets-clause-right c)
 
 pub returns-in_err-octets-clause-only_told : goal.returns-in_err-octets-clause-only_told
 returns-in_err-octets-clause-only_told c = λ n u o h p.
     let v = c.args.versions.now in
     let k = old_lawful v in
     let l = new_lawful v in
-    only_told (older_of v) (newer_of v) k l (old_tidy v) (new_tidy v) (extends v) (old_unfolds v) (new_unfolds v) (rules_of c.args.from) (hops_of c.args.hops.now) c.args.input.now (some_model_hop c.args.hops.now c.requires) n u h
+    only_told (older_of v) (newer_of v) k l (old_tidy v) (new_tidy v) (extends v c.requires.newer) (old_unfolds v) (new_unfolds v) (rules_of c.args.from) (hops_of c.args.hops.now) c.args.input.now (some_model_hop c.args.hops.now c.requires.some) n u h
     (outcome_of c.from_residual.result) (returns-in_err-octets-clause-right c) o p
 
 pub returns-in_err-octets-2-clause-right : goal.returns-in_err-octets-2-clause-right
@@ -63,8 +63,8 @@ returns-in_err-octets-2-clause-told c = λ n u h.
     let v = c.args.versions.now in
     let k = old_lawful v in
     let l = new_lawful v in
-    is_told (older_of v) (newer_of v) k l (old_tidy v) (new_tidy v) (extends v) (old_unfolds v) (new_unfolds v)
-    (rules_of c.args.from) (hops_of c.args.hops.now) c.args.input.now (some_model_hop c.args.hops.now c.requires) n u h
+    is_told (older_of v) (newer_of v) k l (old_tidy v) (new_tidy v) (extends v c.requires.newer) (old_unfolds v) (new_unfolds v)
+    (rules_of c.args.from) (hops_of c.args.hops.now) c.args.input.now (some_model_hop c.args.hops.now c.requires.some) n u h
     (outcome_of c.from_residual-in_err-octets-2.result) (returns-in_err-octets-2-clause-right c)
 
 pub returns-in_err-octets-2-clause-only_told : goal.returns-in_err-octets-2-clause-only_told
@@ -72,7 +72,7 @@ returns-in_err-octets-2-clause-only_told c = λ n u o h p.
     let v = c.args.versions.now in
     let k = old_lawful v in
     let l = new_lawful v in
-    only_told (older_of v) (newer_of v) k l (old_tidy v) (new_tidy v) (extends v) (old_unfolds v) (new_unfolds v) (rules_of c.args.from) (hops_of c.args.hops.now) c.args.input.now (some_model_hop c.args.hops.now c.requires) n u h
+    only_told (older_of v) (newer_of v) k l (old_tidy v) (new_tidy v) (extends v c.requires.newer) (old_unfolds v) (new_unfolds v) (rules_of c.args.from) (hops_of c.args.hops.now) c.args.input.now (some_model_hop c.args.hops.now c.requires.some) n u h
     (outcome_of c.from_residual-in_err-octets-2.result) (returns-in_err-octets-2-clause-right c) o p
 
 pub returns-in_err-octets-2-clause-reached : goal.returns-in_err-octets-2-clause-reached
@@ -113,13 +113,13 @@ returns-clause-told c = λ n u h.
     let v = c.args.versions.now in
     let k = old_lawful v in
     let l = new_lawful v in
-    is_told (older_of v) (newer_of v) k l (old_tidy v) (new_tidy v) (extends v) (old_unfolds v) (new_unfolds v)
-    (rules_of c.args.from) (hops_of c.args.hops.now) c.args.input.now (some_model_hop c.args.hops.now c.requires) n u h (Some (arrived c.loop-place.octets.items)) (returns-clause-right c)
+    is_told (older_of v) (newer_of v) k l (old_tidy v) (new_tidy v) (extends v c.requires.newer) (old_unfolds v) (new_unfolds v)
+    (rules_of c.args.from) (hops_of c.args.hops.now) c.args.input.now (some_model_hop c.args.hops.now c.requires.some) n u h (Some (arrived c.loop-place.octets.items)) (returns-clause-right c)
 
 pub returns-clause-only_told : goal.returns-clause-only_told
 returns-clause-only_told c = λ n u o h p.
     let v = c.args.versions.now in
     let k = old_lawful v in
     let l = new_lawful v in
-    only_told (older_of v) (newer_of v) k l (old_tidy v) (new_tidy v) (extends v) (old_unfolds v) (new_unfolds v) (rules_of c.args.from) (hops_of c.args.hops.now) c.args.input.now (some_model_hop c.args.hops.now c.requires) n u h
+    only_told (older_of v) (newer_of v) k l (old_tidy v) (new_tidy v) (extends v c.requires.newer) (old_unfolds v) (new_unfolds v) (rules_of c.args.from) (hops_of c.args.hops.now) c.args.input.now (some_model_hop c.args.hops.now c.requires.some) n u h
     (Some (arrived c.loop-place.octets.items)) (returns-clause-right c) o p
