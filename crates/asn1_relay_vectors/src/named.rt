@@ -77,7 +77,7 @@ fn judge_under(inputs: &mut Inputs, line: &Line<'_>) -> Verdict {
         "octet-string" => judge_under!(inputs, OctetString, line),
         "numeric" => judge_under!(inputs, NumericString, line),
         "visible" => judge_under!(inputs, VisibleString, line),
-        "utf8" => judge_under!(inputs, String, line),
+        "utf8" | "sized-utf8" => judge_under!(inputs, String, line),
         "bools" => judge_under!(inputs, Vec<bool>, line),
         "bag" => judge_under!(inputs, Bag, line),
         _ => judge_native(inputs, line),
