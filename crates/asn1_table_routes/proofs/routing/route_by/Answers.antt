@@ -123,3 +123,14 @@ returns-clause-only_told c = λ n u o h p.
     let l = new_lawful v in
     only_told (older_of v) (newer_of v) k l (old_tidy v) (new_tidy v) (extends v c.requires.newer) (old_unfolds v) (new_unfolds v) (rules_of c.args.from) (hops_of c.args.hops.now) c.args.input.now (some_model_hop c.args.hops.now c.requires.some) n u h
     (Some (arrived c.loop-place.octets.items)) (returns-clause-right c) o p
+
+pub loop-place-init : goal.loop-place-init
+loop-place-init c =
+    let old = older_of c.args.versions.now 128 in
+    let new = newer_of c.args.versions.now 128 in
+    let some = some_hop c.args.hops.now c.requires.some in (
+      omega (arith, some),
+      next_passed old new c.args.from c.args.hops.now c.args.input.now c.args.from c.args.input.now 0 some
+          (nothing_passed old new c.args.from c.args.hops.now c.args.input.now) c.args.input.now refl c.in_ok-octets.octets.items
+          c.in_ok-octets.ensures.right,
+    )
