@@ -3,6 +3,7 @@ use crate::streams::{Relayed, Way};
 use asn1_relay_core::{
     Codec, DecodeError, EncodeError, MemorySink, RecodeFault, RelayFault, RunFault,
 };
+use asn1_relay_vectors_lines::limits::Limits;
 use std::alloc::{AllocError, Global};
 
 /// The sets of rules of the input and of the output of a translation.
@@ -56,25 +57,26 @@ impl Step {
     }
 }
 
-/// A type of the vectors: a Rust type, a Rust type with constraints that are given to each call, or a type of a table.
+/// A type of the vectors.
 pub trait Judged {
-    /// Whether its messages are relayed in streams. With constraints that are given to each call they are not: such
-    /// decoders return no remainder.
-    fn is_relayed(&self) -> bool;
-
-    /// Translates octets from one set of rules to another. If its messages are not relayed, octets after one are
-    /// ignored.
-    fn translate(&self, alloc: Global, rules: Rules, octets: &[u8]) -> Translated;
+    /// Translates octets from one set of rules to another. With constraints, octets after a message are ignored.
+    fn translate(&self, alloc: Global, limits: &Limits, rules: Rules, octets: &[u8]) -> Translated;
 
     /// Decodes the value with whose encoding octets begin, and encodes it.
     ///
     /// # Errors
     ///
     /// Why the octets begin with no encoding.
-    fn front(&self, alloc: Global, rules: Rules, octets: &[u8]) -> Result<Told, DecodeError>;
+    fn front(
+        &self,
+        alloc: Global,
+        limits: &Limits,
+        rules: Rules,
+        octets: &[u8],
+    ) -> Result<Told, DecodeError>;
 
     /// Feeds octets to a relay, in pieces that end at these positions. The output of each piece goes to a buffer of its
-    /// own, and from there to `out`. None if its messages are not relayed.
+    /// own, and from there to `out`.
     ///
     /// # Errors
     ///
@@ -86,20 +88,13 @@ pub trait Judged {
         octets: &[u8],
         ends: &[usize],
         out: &mut Vec<u8>,
-    ) -> Result<Option<Vec<Step>>, AllocError>;
+    ) -> Result<Vec<Step>, AllocError>;
 
-    /// Feeds the pieces of a stream to a relay, up to its first error, and ends the stream. None if its messages are
-    /// not relayed.
-    fn relay(
-        &self,
-        alloc: Global,
-        way: Way,
-        pieces: &[&[u8]],
-        out: &mut Vec<u8>,
-    ) -> Option<Relayed>;
+    /// Feeds the pieces of a stream to a relay, up to its first error, and ends the stream.
+    fn relay(&self, alloc: Global, way: Way, pieces: &[&[u8]], out: &mut Vec<u8>) -> Relayed;
 
-    /// Runs a relay from memory to memory. None if its messages are not relayed.
-    fn run(&self, alloc: Global, way: Way, octets: Vec<u8>) -> Option<Ran>;
+    /// Runs a relay from memory to memory.
+    fn run(&self, alloc: Global, way: Way, octets: Vec<u8>) -> Ran;
 }
 
 /// The octets from one position up to another.

@@ -5,7 +5,5 @@
 pub mod cuts;
 pub mod judged;
 pub mod judging;
-pub mod messages;
 pub mod routes;
 pub mod streams;
-pub mod tables;

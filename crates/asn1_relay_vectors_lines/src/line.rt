@@ -29,15 +29,15 @@ pub enum LineError {
     /// A word is not the name of an error, or of none that may be named there.
     #[error("there is no such error")]
     NoError,
-    /// No type, or no pair of versions, has this name.
-    #[error("there is no type or pair of versions of this name")]
+    /// No type has this name.
+    #[error("there is no such type")]
     NoType,
-    /// Messages of the type are not relayed in streams.
-    #[error("there are no streams of this type")]
-    NoStreams,
     /// The result for octets, a stream or a route is not what the line says.
     #[error("{0}")]
     Otherwise(String),
+    /// No pair of versions has this name.
+    #[error("there is no such pair of versions")]
+    NoPair,
     /// A pair of versions has no sample values.
     #[error("there are no samples of this pair of versions")]
     NoSample,
@@ -108,8 +108,6 @@ pub struct Line<'a> {
     pub kind: &'a str,
     /// The name of the type, and its constraints as they are written.
     pub constrained: &'a str,
-    /// Its constraints as they are written.
-    pub constraints: &'a str,
     /// Its constraints.
     pub limits: Limits,
     /// The claim.
@@ -131,7 +129,6 @@ impl<'a> Line<'a> {
             return Ok(Line {
                 kind,
                 constrained: kind,
-                constraints: "",
                 limits: Limits::NONE,
                 claim,
             });
@@ -146,7 +143,6 @@ impl<'a> Line<'a> {
         Ok(Line {
             kind,
             constrained,
-            constraints,
             limits,
             claim,
         })

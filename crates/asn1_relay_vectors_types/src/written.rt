@@ -6,8 +6,9 @@ ghost use Rattle.asn1_schema_errors.specs.Calls.{EncoderCall};
 
 use asn1_schema::{
     AddedGroupComponent, AddedOptionalComponent, AddedRequiredComponent, AdditionsOf, ComponentsOf,
-    CountOf, Encode, EncodeComponents, EncodeError, EncodeExtension, EncodeSequence, Encoder, End,
-    ExtensibleComponents, Group, NoMore, OptionalComponent, RequiredComponent,
+    CountOf, DefaultOf, DefaultedComponent, Encode, EncodeComponents, EncodeError, EncodeExtension,
+    EncodeSequence, Encoder, End, ExtensibleComponents, Group, NoMore, OptionalComponent,
+    RequiredComponent,
 };
 
 /// Components that are encoded as they were read.
@@ -49,6 +50,15 @@ impl<T: Encode, R: WriteComponents> WriteComponents for OptionalComponent<T, R> 
     fn write_components<E: Encoder>(&self, encoder: &mut E) -> Result<(), EncodeError> {
         encoder.encode_optional(&self.0)?;
         self.1.write_components(encoder)?;
+        Ok(())
+    }
+}
+
+impl<V: DefaultOf<T>, T: Encode, R: WriteComponents> WriteComponents
+    for DefaultedComponent<V, T, R> {
+    fn write_components<E: Encoder>(&self, encoder: &mut E) -> Result<(), EncodeError> {
+        encoder.encode_default::<V, T>(&self.0)?;
+        self.2.write_components(encoder)?;
         Ok(())
     }
 }
