@@ -12,6 +12,7 @@ use Rattle.asn1_relay_core.specs.Coding.{IsWritten, rules_of}
 use Rattle.asn1_relay_core.specs.declared.codec.Codec.{Codec}
 use Rattle.asn1_schema_laws.specs.Tables.{IsValue}
 use Rattle.asn1_table_types.specs.Meaning.{type_at}
+use Rattle.asn1_module_command.specs.Checks.{HasChecked, StopsChecking}
 use Rattle.asn1_module_command.specs.declared.errors.CommandError.{CommandError}
 use Rattle.asn1_module_command.specs.declared.errors.CommandError.TheVariants as error
 use Rattle.asn1_module_command.specs.declared.errors.Stop.{Stop}
@@ -108,14 +109,19 @@ StopsTranslating t s unread unread' held held' e =
 
 -- ---- orders
 
--- what was requested of a type is done; nothing is said of a message that is checked, and of a type that is printed
+-- what was requested of a type is done; nothing is said of a message in hexadecimal digits, and of a type that is
+-- printed
 abbrev pub HasActed : Action → Schema → Known → Known → Known → Known → Type 0
 HasActed (action.Translate t) s unread unread' held held' = HasTranslated t s unread unread' held held'
+HasActed (action.Check rules is_hexadecimal) s unread unread' held held' =
+    is_hexadecimal ≡ false → HasChecked s rules unread unread' held held'
 HasActed a s unread unread' held held' = Unit {0}
 
 -- an error stops this
 abbrev pub StopsActing : Action → Schema → Known → Known → Known → Known → CommandError → Type 0
 StopsActing (action.Translate t) s unread unread' held held' e = StopsTranslating t s unread unread' held held' e
+StopsActing (action.Check rules is_hexadecimal) s unread unread' held held' e =
+    is_hexadecimal ≡ false → StopsChecking s rules unread unread' held held' e
 StopsActing a s unread unread' held held' e = Unit {0}
 
 -- it is done for the type of a table, all of whose types are lawful

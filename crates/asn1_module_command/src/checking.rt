@@ -1,9 +1,14 @@
 //! Whether a message is canonical.
+ghost use Rattle.std.specs.Prelude.{◌≡◌, MatchResult, Some};
+ghost use Rattle.asn1_module_command.specs.Checks.{IsCanonical, IsNotCanonical, difference_in};
+ghost use Rattle.asn1_module_command.specs.Runs.{schema_in};
+
 use crate::errors::CommandError;
-use crate::order::Form;
 use crate::values::Typed;
+use asn1_relay_command::translate_octets;
 use asn1_relay_core::Codec;
 use asn1_table_locating::{Located, first_difference};
+use asn1_table_relay::TableType;
 
 /// The rules that accept of these only what encoders write, but for the freedoms that strict readers have.
 fn strict_rules(rules: Codec) -> Codec {
@@ -15,7 +20,7 @@ fn strict_rules(rules: Codec) -> Codec {
     }
 }
 
-/// Checks that a message is the canonical encoding of a value of the type.
+/// Checks that a message is the canonical encoding of a value of the type: the one that it becomes in its own rules.
 ///
 /// # Errors
 ///
@@ -25,14 +30,34 @@ pub(crate) fn check_canonical(
     typed: Typed<'_>,
     rules: Codec,
     message: &[u8],
-) -> Result<(), CommandError> {
-    let tape = typed.read(Form::Rules(rules), message)?;
-    let canonical = typed.encode(rules, &tape)?;
-    let Some(octet) = first_difference(message, canonical.as_slice()) else {
-        return Ok(());
+) -> Result<(), CommandError>
+    ensures { MatchResult result
+        (λ _. IsCanonical (schema_in typed.entry.table.now) rules message.now)
+        (IsNotCanonical (schema_in typed.entry.table.now) rules message.now) }
+{
+    let table = typed.table;
+    let message_type = TableType {
+        types: &table.types,
+        place: table.place,
     };
-    match typed.locate(strict_rules(rules), message)? {
-        Located::Refused(refused) => Err(CommandError::NotStrict(octet, refused)),
-        Located::Read(_) => Err(CommandError::NotCanonical(octet)),
+    let canonical = match translate_octets(typed.alloc, &message_type, rules, rules, message) {
+        Ok(octets) => octets,
+        Err(fault) => return Err(typed.explained(rules, message, fault)),
+    };
+    match first_difference(message, canonical.as_slice()) {
+        None => Ok(()),
+        Some(octet) => Err(typed.differing(rules, message, octet)),
+    }
+}
+
+impl Typed<'_> {
+    /// The error of an encoding that differs from the canonical one from this octet on.
+    fn differing(self, rules: Codec, message: &[u8], octet: usize) -> CommandError
+        ensures { difference_in result ≡ Some octet }
+    {
+        match self.locate(strict_rules(rules), message) {
+            Ok(Located::Refused(refused)) => CommandError::NotStrict(octet, refused),
+            _ => CommandError::NotCanonical(octet),
+        }
     }
 }

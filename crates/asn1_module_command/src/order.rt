@@ -2,7 +2,7 @@
 ghost use Rattle.std.specs.Prelude.{IfOk, IfSome};
 ghost use Rattle.asn1_module_command.specs.Runs.{CanBeDone, IsBounded};
 
-use asn1_notation_types::Additions;
+use asn1_notation_types::{Additions, OpenTypes, TableOptions};
 use asn1_relay_command::codec_named;
 use asn1_relay_core::Codec;
 use asn1_table_json_writing::Style;
@@ -70,8 +70,8 @@ pub struct Order {
     pub modules: Vec<String>,
     /// The type's name, or its module's name, a dot and its name; if there is none, the names of all types are listed.
     pub type_name: Option<String>,
-    /// Whether additions that are not OPTIONAL may be absent.
-    pub additions: Additions,
+    /// How the modules are understood.
+    pub options: TableOptions,
     /// What is done with the type.
     pub action: Action,
     /// The file of the input, if it is not standard input.
@@ -116,11 +116,18 @@ fn with_modules<'a>(alloc: Global, command: Command<'a>) -> Result<Command<'a>, 
         "module",
         "a file of ASN.1 modules (X.680); may be repeated",
     );
-    command.arg(module.action(ArgAction::Append))?.arg(flag(
-        alloc,
-        "required-additions",
-        "additions that are not OPTIONAL must be there, also in messages of earlier senders",
-    ))
+    command
+        .arg(module.action(ArgAction::Append))?
+        .arg(optional(
+            alloc,
+            "open-types",
+            "octets: what an open type holds is kept as it is encoded; else such messages are refused",
+        ))?
+        .arg(flag(
+            alloc,
+            "required-additions",
+            "additions that are not OPTIONAL must be there, also in messages of earlier senders",
+        ))
 }
 
 /// The options that say which type is meant, and what the input is.
@@ -289,6 +296,22 @@ fn action_in(name: &str, options: &ArgMatches<'_>) -> Option<Action>
     }
 }
 
+/// How modules are understood, if each option names something.
+fn options_in(options: &ArgMatches<'_>) -> Option<TableOptions> {
+    Some(TableOptions {
+        additions: if options.get_flag("required-additions") {
+            Additions::AreRequired
+        } else {
+            Additions::MayBeAbsent
+        },
+        open_types: match options.get_str("open-types") {
+            None => OpenTypes::AreRefused,
+            Some("octets") => OpenTypes::AreOctets,
+            Some(_) => return None,
+        },
+    })
+}
+
 /// A copy of the value of an option, if it has one.
 fn string_of(alloc: Global, value: Option<&str>) -> Result<Option<String>, AllocError> {
     match value {
@@ -305,22 +328,17 @@ fn order_in(
 ) -> Result<Option<Order>, AllocError>
     ensures { IfOk result (λ order. IfSome order (λ o. CanBeDone o.action)) }
 {
-    let Some(action) = action_in(name, options) else {
+    let (Some(action), Some(table_options)) = (action_in(name, options), options_in(options)) else {
         return Ok(None);
     };
     let modules = strings_of(alloc, options.get_strs("module"))?;
     let type_name = string_of(alloc, options.get_str("type"))?;
     let input = string_of(alloc, options.get_str("input"))?;
     let output = string_of(alloc, options.get_str("output"))?;
-    let additions = if options.get_flag("required-additions") {
-        Additions::AreRequired
-    } else {
-        Additions::MayBeAbsent
-    };
     Ok(Some(Order {
         modules,
         type_name,
-        additions,
+        options: table_options,
         action,
         input,
         output,
@@ -347,7 +365,7 @@ pub fn read_order<S: AsStr>(alloc: Global, words: &[S]) -> Result<Order, Error>
         Some(order) => Ok(order),
         None => Err(grammar.error(
             ErrorKind::InvalidValue,
-            "--from and --to are uper, aper, uper-strict, aper-strict, oer, coer or json; check takes no json",
+            "--from and --to are the names of rules, or json except in check; --open-types is octets",
         )?),
     }
 }

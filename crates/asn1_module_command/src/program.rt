@@ -1,6 +1,7 @@
 //! The command over modules.
-ghost use Rattle.std.specs.Prelude.{◌≡◌, ◌≤◌, MatchResult};
+ghost use Rattle.std.specs.Prelude.{◌≡◌, ◌≤◌, MatchResult, false};
 ghost use Rattle.asn1_relay_command.specs.Runs.{IsUntouched};
+ghost use Rattle.asn1_module_command.specs.Checks.{HasChecked, IsSaid, StopsChecking, StopsSaying};
 ghost use Rattle.asn1_module_command.specs.Runs.{CanBeDone, HasActed, HasDone, HasFailed, StopsActing, StopsAt};
 ghost use Rattle.asn1_module_command.specs.Runs.{schema_in};
 
@@ -141,7 +142,7 @@ fn attempt<R: Read, W: Write>(
             Ok(())
         }
         Some(name) => {
-            let table = table_named(alloc, files.as_slice(), name.as_str(), order.additions)?;
+            let table = table_named(alloc, files.as_slice(), name.as_str(), order.options)?;
             match act(alloc, &table, order.action, input, output) {
                 Ok(()) => Ok(()),
                 Err(error) => Err(Stop::Command(error)),
@@ -206,12 +207,35 @@ fn check<R: Read, W: Write>(
     is_hexadecimal: bool,
     input: &mut R,
     output: &mut W,
-) -> Result<(), CommandError> {
-    let mut message = read_all(typed.alloc, input)?;
+) -> Result<(), CommandError>
+    ensures { MatchResult result
+        (λ _. is_hexadecimal ≡ false → HasChecked (schema_in typed.entry.table.now) rules
+        (R.remaining input.old) (R.remaining input.new) (W.contents output.old) (W.contents output.new))
+        (λ e. is_hexadecimal ≡ false → StopsChecking (schema_in typed.entry.table.now) rules
+        (R.remaining input.old) (R.remaining input.new) (W.contents output.old) (W.contents output.new) e) }
+{
+    let message = read_all(typed.alloc, input)?;
     if is_hexadecimal {
-        message = octets_of(typed.alloc, message.as_slice())?;
+        let octets = octets_of(typed.alloc, message.as_slice())?;
+        return say_canonical(typed, rules, octets.as_slice(), output);
     }
-    check_canonical(typed, rules, message.as_slice())?;
+    say_canonical(typed, rules, message.as_slice(), output)
+}
+
+/// Says that a message is canonical.
+fn say_canonical<W: Write>(
+    typed: Typed<'_>,
+    rules: Codec,
+    message: &[u8],
+    output: &mut W,
+) -> Result<(), CommandError>
+    ensures { MatchResult result
+        (λ _. IsSaid (schema_in typed.entry.table.now) rules message.now
+        (W.contents output.old) (W.contents output.new))
+        (StopsSaying (schema_in typed.entry.table.now) rules message.now
+        (W.contents output.old) (W.contents output.new)) }
+{
+    check_canonical(typed, rules, message)?;
     write_all(b"canonical\n", output)?;
     Ok(())
 }

@@ -1,7 +1,7 @@
 //! The files of modules, and the table of a type.
 use crate::errors::ModuleError;
 use asn1_notation_syntax::{Syntax, line_and_column, read_syntax};
-use asn1_notation_types::{Additions, Problem, Table, table_of};
+use asn1_notation_types::{Problem, Table, TableOptions, table_of};
 use asn1_relay_core::write_octets;
 use std::alloc::Global;
 use std::io::{self, Write};
@@ -46,13 +46,13 @@ pub(crate) fn table_named(
     alloc: Global,
     files: &[Syntax],
     name: &str,
-    additions: Additions,
+    options: TableOptions,
 ) -> Result<Table, ModuleError> {
     let (module, type_name) = match name.split_once('.') {
         Some((module, type_name)) => (Some(module), type_name),
         None => (None, name),
     };
-    let error = match table_of(alloc, files, module, type_name, additions) {
+    let error = match table_of(alloc, files, module, type_name, options) {
         Ok(table) => return Ok(table),
         Err(error) => error,
     };
@@ -61,8 +61,8 @@ pub(crate) fn table_named(
     }
     let problem = error.explained(files).to_string(alloc)?;
     match files.get(error.file) {
-        // The first lexical item of a file is no name of a type.
-        Some(syntax) if error.place > 0 => Err(ModuleError::Text {
+        // The first lexical item of the first file stands for a type that no module has.
+        Some(syntax) if error.place > 0 || error.file > 0 => Err(ModuleError::Text {
             file: error.file,
             offset: syntax.offset(error.place),
             problem,

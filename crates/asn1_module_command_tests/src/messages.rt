@@ -59,9 +59,90 @@ const SMALLS: [Row; 6] = [
     (small!("json", "uper", "--hex"), SMALL, b"-4", b"10\n"),
 ];
 
+/// Two characters that take four octets: their number has no effect on the encoding (X.696 27).
+const TEXT: &str = "M DEFINITIONS ::= BEGIN Small ::= UTF8String (SIZE (2)) END";
+
+const TEXTS: [Row; 2] = [
+    (
+        small!("coer", "json"),
+        TEXT,
+        b"\x04\xC3\xA4\xC3\xB6",
+        b"\"\xC3\xA4\xC3\xB6\"\n",
+    ),
+    (
+        small!("json", "uper"),
+        TEXT,
+        b"\"\xC3\xA4\xC3\xB6\"",
+        b"\x04\xC3\xA4\xC3\xB6",
+    ),
+];
+
+#[test]
+fn texts(rt: HostRuntime) {
+    assert!(rt; first_wrong(rt.alloc(), &TEXTS).is_none());
+}
+
 #[test]
 fn small_numbers(rt: HostRuntime) {
     assert!(rt; first_wrong(rt.alloc(), &SMALLS).is_none());
+}
+
+/// A list of fields, each of which holds a value of the type that its number stands for (X.681, X.683).
+const CONTAINER: &str = "M DEFINITIONS AUTOMATIC TAGS ::= BEGIN
+    FIELDS ::= CLASS { &id Number UNIQUE, &Value } WITH SYNTAX { ID &id TYPE &Value }
+    Number ::= INTEGER (0..65535)
+    Known FIELDS ::= { { ID 1 TYPE BOOLEAN }, ... }
+    Message ::= SEQUENCE { fields Container {{Known}}, ... }
+    Container {FIELDS : Set} ::= SEQUENCE (SIZE (0..3)) OF Field {{Set}}
+    Field {FIELDS : Set} ::= SEQUENCE { id FIELDS.&id ({Set}), value FIELDS.&Value ({Set}{@id}) }
+    END";
+
+/// The words of a translation of a `Message`, its octets as hexadecimal digits.
+macro_rules! container {
+    ($from:literal, $to:literal $(, $more:literal)*) => {
+        &[
+            "asn1_relay", "once", "--module=m.asn", "--type", "Message", "--from", $from, "--to", $to, "--hex"
+            $(, $more)*
+        ]
+    };
+}
+
+/// An open type holds 80, TRUE in UPER and APER; in APER `id` and it begin at octets.
+const CONTAINERS: [Row; 4] = [
+    (
+        container!("aper", "uper", "--open-types", "octets"),
+        CONTAINER,
+        b"2000010180",
+        b"2000203000\n",
+    ),
+    (
+        container!("uper", "coer", "--open-types=octets"),
+        CONTAINER,
+        b"2000203000",
+        b"00010100010180\n",
+    ),
+    (
+        container!("coer", "json", "--open-types=octets"),
+        CONTAINER,
+        b"00010100010180",
+        b"{\"fields\":[{\"id\":1,\"value\":\"80\"}]}\n",
+    ),
+    (container!("aper", "coer"), CONTAINER, b"00", b"000100\n"),
+];
+
+#[test]
+fn open_types(rt: HostRuntime) {
+    assert!(rt; first_wrong(rt.alloc(), &CONTAINERS).is_none());
+    assert!(rt;
+        is_refused(
+            rt.alloc(),
+            container!("aper", "coer"),
+            CONTAINER,
+            b"2000010180",
+            b"",
+            "asn1_relay: not an encoding: octet 3, bit 0, in fields[0].value: the type is not supported\n"
+        )
+    );
 }
 
 /// Words, the module, the input, and the error.

@@ -1,7 +1,7 @@
 //! Modules in which something is wrong, and command lines.
 use crate::common::{Row, SMALL, first_wrong, is_refused};
 use asn1_module_command::{Action, Extent, Form, names_modules, read_order};
-use asn1_notation_types::Additions;
+use asn1_notation_types::{Additions, OpenTypes};
 use asn1_relay_core::Codec;
 use clap::error::ErrorKind;
 use std::alloc::Global;
@@ -74,7 +74,7 @@ fn is_bad(alloc: Global, words: &[&str]) -> bool {
 }
 
 /// A line with each option of a stream.
-const STREAM: [&str; 20] = [
+const STREAM: [&str; 22] = [
     "asn1_relay",
     "stream",
     "--module",
@@ -90,6 +90,8 @@ const STREAM: [&str; 20] = [
     "--limit",
     "9",
     "--required-additions",
+    "--open-types",
+    "octets",
     "--hex",
     "--input",
     "in",
@@ -121,7 +123,8 @@ fn takes_options(alloc: Global) -> bool {
     };
     is_right
         && order.modules.len() == 2
-        && order.additions == Additions::AreRequired
+        && order.options.additions == Additions::AreRequired
+        && order.options.open_types == OpenTypes::AreOctets
         && has(&order.input, "in")
         && has(&order.output, "out")
 }

@@ -28,10 +28,11 @@ fn is_opening(kind: ItemKind) -> bool {
     kind == ItemKind::Symbol(Symbol::LeftParenthesis)
 }
 
-/// The parts of an object identifier in braces.
+/// The parts of an object identifier in braces, at least one.
 pub fn read_arcs(parser: &mut Parser<'_>) -> Parsed<ValueKind> {
     parser.expect(Symbol::LeftBrace)?;
     let mut arcs = Vec::new(parser.alloc);
+    arcs.push(read_arc(parser)?)?;
     for _ in 0..parser.left() {
         if parser.sees(Symbol::RightBrace) {
             break;

@@ -1,7 +1,10 @@
 //! Constraints (X.680 49 and 50).
-use crate::elements::{read_contained, read_table, read_values, read_words, see_table, see_value};
+ghost use Rattle.std.specs.Prelude.{◌≡◌};
+
+use crate::elements::{read_contained, read_table, read_values, read_words, see_table};
 use crate::inner::read_inner;
 use crate::parser::Parser;
+use crate::references::see_value;
 use crate::refusals::{Parsed, Refusal};
 use crate::values::skip_exception;
 use asn1_notation_tokens::{ItemKind, Symbol, Word};
@@ -104,9 +107,15 @@ fn read_exclusion(parser: &mut Parser<'_>, depth: usize) -> Parsed<ConstraintInd
     parser.add_constraint(place, ConstraintKind::Except(included, excluded))
 }
 
-/// Elements without UNION, INTERSECTION and EXCEPT, unless in parentheses (X.680 50.1, 51.1).
+/// Elements without UNION, INTERSECTION and EXCEPT, unless in parentheses (X.680 50.1, 51.1), nested at most this deep.
+///
+/// # Errors
+///
+/// The first item that the notation does not allow there, or that is nested deeper; and `OutOfMemory`.
 #[cycle(constraints)]
-pub fn read_elements(parser: &mut Parser<'_>, depth: usize) -> Parsed<ConstraintIndex> {
+pub fn read_elements(parser: &mut Parser<'_>, depth: usize) -> Parsed<ConstraintIndex>
+    ensures { depth ≡ 0 → result ≡ Err (Refusal.TooDeep parser.old.next) }
+{
     let place = parser.next;
     if depth == 0 {
         return Err(Refusal::TooDeep(place));

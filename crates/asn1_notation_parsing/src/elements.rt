@@ -9,12 +9,6 @@ use asn1_notation_tree::{
     ConstraintKind, Expected, Limit, RangeEnd, TypeIndex, TypeKind, TypeTerm, UnseenConstraint,
 };
 
-/// Whether the next item is the name of a value after its module.
-pub fn see_value(parser: &Parser<'_>) -> bool {
-    parser.peek_after(1) == ItemKind::Symbol(Symbol::Dot)
-        && parser.peek_after(2) == ItemKind::Identifier
-}
-
 /// Whether the braces at the next item hold information objects, which are not named each.
 pub fn see_table(parser: &Parser<'_>) -> bool {
     match parser.peek_after(1) {

@@ -29,7 +29,7 @@ pub fn read_named_numbers(parser: &mut Parser<'_>) -> Parsed<Vec<NamedNumber>> {
 pub fn read_enumeration(parser: &mut Parser<'_>) -> Parsed<Enumeration> {
     parser.expect(Symbol::LeftBrace)?;
     let mut enumeration = Enumeration {
-        root: read_items(parser)?,
+        root: read_items(parser, true)?,
         is_extensible: false,
         additions: Vec::new(parser.alloc),
     };
@@ -37,19 +37,19 @@ pub fn read_enumeration(parser: &mut Parser<'_>) -> Parsed<Enumeration> {
         enumeration.is_extensible = true;
         skip_exception(parser, MAXIMUM_DEPTH)?;
         if parser.eat(Symbol::Comma) {
-            enumeration.additions = read_items(parser)?;
+            enumeration.additions = read_items(parser, false)?;
         }
     }
     parser.end_list(Symbol::RightBrace)?;
     Ok(enumeration)
 }
 
-/// Items separated by commas, up to an extension marker after a comma.
-fn read_items(parser: &mut Parser<'_>) -> Parsed<Vec<EnumerationItem>> {
+/// Items separated by commas, up to an extension marker after a comma if one may come.
+fn read_items(parser: &mut Parser<'_>, may_extend: bool) -> Parsed<Vec<EnumerationItem>> {
     let mut items = Vec::new(parser.alloc);
     for _ in 0..parser.left() {
         items.push(read_item(parser)?)?;
-        if !parser.eat(Symbol::Comma) || parser.sees(Symbol::Ellipsis) {
+        if !parser.eat(Symbol::Comma) || (may_extend && parser.sees(Symbol::Ellipsis)) {
             break;
         }
     }

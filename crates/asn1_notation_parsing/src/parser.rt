@@ -1,4 +1,6 @@
 //! The lexical items that are still to be read, and the terms that have been.
+ghost use Rattle.std.specs.Prelude.{◌≡◌, ◌++◌, ◌∷◌, [], IfErr, IfOk, OnOk, length};
+
 use crate::refusals::{Parsed, Refusal};
 use crate::strings::copied_name;
 use asn1_notation_tokens::{ItemKind, Items, Symbol, Word};
@@ -32,7 +34,9 @@ pub struct Parser<'a> {
 
 impl<'a> Parser<'a> {
     /// A parser before the first item of a text.
-    pub fn new(alloc: Global, text: &'a [u8], items: &'a Items) -> Parser<'a> {
+    pub fn new(alloc: Global, text: &'a [u8], items: &'a Items) -> Parser<'a>
+        ensures { result.next ≡ 0 }
+    {
         Parser {
             text,
             items,
@@ -69,7 +73,9 @@ impl<'a> Parser<'a> {
     }
 
     /// The refusal of the next item, in place of what is expected.
-    pub fn expected(&self, expected: Expected) -> Refusal {
+    pub fn expected(&self, expected: Expected) -> Refusal
+        ensures { result ≡ Refusal.Unexpected expected self.now.next }
+    {
         Refusal::Unexpected(expected, self.next)
     }
 
@@ -102,7 +108,13 @@ impl<'a> Parser<'a> {
     }
 
     /// Goes past a symbol.
-    pub fn expect(&mut self, symbol: Symbol) -> Parsed<()> {
+    ///
+    /// # Errors
+    ///
+    /// The next item is another one.
+    pub fn expect(&mut self, symbol: Symbol) -> Parsed<()>
+        ensures { IfErr result (λ r. r ≡ Refusal.Unexpected (Expected.Symbol symbol) self.new.next) }
+    {
         if self.eat(symbol) {
             return Ok(());
         }
@@ -110,7 +122,13 @@ impl<'a> Parser<'a> {
     }
 
     /// Goes past a reserved word.
-    pub fn expect_word(&mut self, word: Word) -> Parsed<()> {
+    ///
+    /// # Errors
+    ///
+    /// The next item is another one.
+    pub fn expect_word(&mut self, word: Word) -> Parsed<()>
+        ensures { IfErr result (λ r. r ≡ Refusal.Unexpected (Expected.Word word) self.new.next) }
+    {
         if self.eat_word(word) {
             return Ok(());
         }
@@ -118,7 +136,13 @@ impl<'a> Parser<'a> {
     }
 
     /// Goes past the symbol that ends a list, after its last element.
-    pub fn end_list(&mut self, symbol: Symbol) -> Parsed<()> {
+    ///
+    /// # Errors
+    ///
+    /// The next item is another one.
+    pub fn end_list(&mut self, symbol: Symbol) -> Parsed<()>
+        ensures { IfErr result (λ r. r ≡ Refusal.Unexpected (Expected.CommaOr symbol) self.new.next) }
+    {
         if self.eat(symbol) {
             return Ok(());
         }
@@ -164,25 +188,32 @@ impl<'a> Parser<'a> {
     }
 
     /// Adds a type, and answers its index.
-    pub fn add_type(&mut self, term: TypeTerm) -> Parsed<TypeIndex> {
+    pub fn add_type(&mut self, term: TypeTerm) -> Parsed<TypeIndex>
+        ensures index { IfOk result (λ index. index ≡ length self.old.types.items) }
+        ensures added { OnOk result (self.new.types.items ≡ self.old.types.items ++ term ∷ []) }
+    {
         let index = self.types.len();
         self.types.push(term)?;
         Ok(index)
     }
 
     /// Adds a constraint that begins at an item, and answers its index.
-    pub fn add_constraint(
-        &mut self,
-        place: usize,
-        kind: ConstraintKind,
-    ) -> Parsed<ConstraintIndex> {
+    pub fn add_constraint(&mut self, place: usize, kind: ConstraintKind) -> Parsed<ConstraintIndex>
+        ensures index { IfOk result (λ index. index ≡ length self.old.constraints.items) }
+        ensures added { OnOk result (self.new.constraints.items
+            ≡ self.old.constraints.items ++ record { place = place; kind = kind } ∷ []) }
+    {
         let index = self.constraints.len();
         self.constraints.push(ConstraintTerm { place, kind })?;
         Ok(index)
     }
 
     /// Adds a value that begins at an item, and answers its index.
-    pub fn add_value(&mut self, place: usize, kind: ValueKind) -> Parsed<ValueIndex> {
+    pub fn add_value(&mut self, place: usize, kind: ValueKind) -> Parsed<ValueIndex>
+        ensures index { IfOk result (λ index. index ≡ length self.old.values.items) }
+        ensures added { OnOk result (self.new.values.items
+            ≡ self.old.values.items ++ record { place = place; kind = kind } ∷ []) }
+    {
         let index = self.values.len();
         self.values.push(ValueTerm { place, kind })?;
         Ok(index)

@@ -17,6 +17,12 @@ pub fn read_qualifier(parser: &mut Parser<'_>, kind: ItemKind) -> Parsed<Option<
     Ok(Some(module))
 }
 
+/// Whether the next item, a name with a capital letter, is the module of a value.
+pub fn see_value(parser: &Parser<'_>) -> bool {
+    parser.peek_after(1) == ItemKind::Symbol(Symbol::Dot)
+        && parser.peek_after(2) == ItemKind::Identifier
+}
+
 /// The actual parameters at the next item, if there are any, as braces.
 pub fn skip_parameters(parser: &mut Parser<'_>) -> Parsed<Vec<ActualParameter>> {
     let mut parameters = Vec::new(parser.alloc);
@@ -29,23 +35,25 @@ pub fn skip_parameters(parser: &mut Parser<'_>) -> Parsed<Vec<ActualParameter>> 
 
 /// The name of a value, after its module if that is given.
 pub fn read_value_reference(parser: &mut Parser<'_>) -> Parsed<Reference> {
-    let module = read_qualifier(parser, ItemKind::Identifier)?;
-    let name = match parser.peek() {
-        ItemKind::Identifier => parser.identifier()?,
-        _ => return Err(parser.expected(Expected::Value)),
-    };
-    let parameters = skip_parameters(parser)?;
-    Ok(Reference {
-        module,
-        name,
-        parameters,
-    })
+    read_reference(parser, ItemKind::Identifier, Expected::Value)
 }
 
 /// The name of a type in a constraint, after its module if that is given.
 pub fn read_contained_reference(parser: &mut Parser<'_>) -> Parsed<Reference> {
-    let module = read_qualifier(parser, ItemKind::Reference)?;
-    let name = parser.reference()?;
+    read_reference(parser, ItemKind::Reference, Expected::Reference)
+}
+
+/// A name of this kind, after its module if that is given, with its actual parameters as braces.
+fn read_reference(
+    parser: &mut Parser<'_>,
+    kind: ItemKind,
+    expected: Expected,
+) -> Parsed<Reference> {
+    let module = read_qualifier(parser, kind)?;
+    if parser.peek() != kind {
+        return Err(parser.expected(expected));
+    }
+    let name = parser.take_name()?;
     let parameters = skip_parameters(parser)?;
     Ok(Reference {
         module,

@@ -1,15 +1,23 @@
 //! Values (X.680 17.7).
+ghost use Rattle.std.specs.Prelude.{◌≡◌};
+
 use crate::braces::{read_arcs, see_arcs};
 use crate::parser::Parser;
-use crate::references::{read_value_reference, skip_type};
+use crate::references::{read_value_reference, see_value, skip_type};
 use crate::refusals::{Parsed, Refusal};
 use crate::strings::{characters_of, digits_of};
 use asn1_notation_tokens::{ItemKind, Symbol, Word};
 use asn1_notation_tree::{Expected, ListElement, ValueIndex, ValueKind};
 
 /// A value that begins at the next item, nested at most this deep.
+///
+/// # Errors
+///
+/// The first item that the notation does not allow there, or that is nested deeper; and `OutOfMemory`.
 #[cycle(value)]
-pub fn read_value(parser: &mut Parser<'_>, depth: usize) -> Parsed<ValueIndex> {
+pub fn read_value(parser: &mut Parser<'_>, depth: usize) -> Parsed<ValueIndex>
+    ensures { depth ≡ 0 → result ≡ Err (Refusal.TooDeep parser.old.next) }
+{
     let place = parser.next;
     if depth == 0 {
         return Err(Refusal::TooDeep(place));
@@ -87,10 +95,7 @@ fn see_typed(parser: &Parser<'_>) -> bool {
         ItemKind::Word(word) => {
             !is_value_word(word) || parser.peek_after(1) == ItemKind::Symbol(Symbol::Colon)
         }
-        ItemKind::Reference => {
-            parser.peek_after(1) != ItemKind::Symbol(Symbol::Dot)
-                || parser.peek_after(2) != ItemKind::Identifier
-        }
+        ItemKind::Reference => !see_value(parser),
         _ => false,
     }
 }
@@ -163,7 +168,8 @@ pub fn read_number(parser: &mut Parser<'_>) -> Parsed<ValueIndex> {
     let place = parser.next;
     let kind = match parser.peek() {
         ItemKind::Number(_) | ItemKind::Symbol(Symbol::Minus) => read_plain(parser)?,
-        ItemKind::Identifier | ItemKind::Reference => {
+        ItemKind::Identifier => ValueKind::Reference(read_value_reference(parser)?),
+        ItemKind::Reference if see_value(parser) => {
             ValueKind::Reference(read_value_reference(parser)?)
         }
         _ => return Err(parser.expected(Expected::Number)),

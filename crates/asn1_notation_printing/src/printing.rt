@@ -89,7 +89,10 @@ impl<'a> Printer<'a> {
                 return String::from_str(alloc, name);
             }
         }
-        let mut name = format!(in alloc; "Type-{place}")?;
+        let mut name = match self.labels.types.node(place) {
+            Some(_) => format!(in alloc; "Type-{place}")?,
+            None => String::from_str(alloc, "Type")?,
+        };
         for count in 0..self.assigned.len() {
             if !self.is_taken(name.as_str()) {
                 break;

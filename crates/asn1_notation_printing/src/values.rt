@@ -2,7 +2,7 @@
 use crate::constraints::{is_newline, write_character, write_quoted};
 use crate::labels::Labels;
 use asn1_table_json_writing::number_text;
-use asn1_table_names::alternative_of;
+use asn1_table_names::{Part, alternative_of, component_at, is_group};
 use asn1_table_tape::elements_at;
 use asn1_table_types::{DefaultValue, Event, StringKind, TypeNode};
 use asn1_values_bit_strings::BitString;
@@ -12,7 +12,33 @@ use std::str;
 /// An index outside each table.
 const NO_TYPE: usize = usize::MAX;
 
+/// A list of components of a SEQUENCE or SET.
+#[derive(Clone, Copy)]
+enum PartList {
+    /// The root components.
+    Root,
+    /// The additions.
+    Additions,
+    /// The components of the group of additions at an index.
+    Group(usize),
+}
+
+impl PartList {
+    /// The component at an index of the list.
+    fn part(self, index: usize) -> Part {
+        match self {
+            PartList::Root => Part::Root(index),
+            PartList::Additions => Part::Addition(index),
+            PartList::Group(addition) => Part::Grouped {
+                addition,
+                component: index,
+            },
+        }
+    }
+}
+
 /// The default of a component of the type at an index.
+#[cycle(values)]
 pub fn write_default(
     text: &mut String,
     labels: Labels<'_>,
@@ -22,23 +48,9 @@ pub fn write_default(
     match value {
         DefaultValue::Simple(event) => write_value(text, labels, place, event),
         DefaultValue::SequenceOf(elements) => {
-            let element = elements_at(labels.types, place).unwrap_or(NO_TYPE);
-            text.push('{')?;
-            for index in 0..elements.len() {
-                if index > 0 {
-                    text.push_str(", ")?;
-                }
-                write_default(text, labels, element, &elements[index])?;
-            }
-            text.push('}')
+            write_elements(text, labels, place, elements.as_slice())
         }
-        DefaultValue::SetOf(None) => text.push_str("{}"),
-        DefaultValue::SetOf(Some(value)) => {
-            let element = elements_at(labels.types, place).unwrap_or(NO_TYPE);
-            text.push('{')?;
-            write_default(text, labels, element, value)?;
-            text.push('}')
-        }
+        DefaultValue::SetOf(elements) => write_elements(text, labels, place, elements.as_slice()),
         DefaultValue::Choice(chosen, value) => {
             labels.write_alternative(text, place, *chosen)?;
             text.push_str(" : ")?;
@@ -48,6 +60,89 @@ pub fn write_default(
             };
             write_default(text, labels, alternative, value)
         }
+        DefaultValue::Components(root, additions) => {
+            text.push('{')?;
+            let begin = text.len();
+            write_parts(text, labels, place, PartList::Root, root.as_slice(), begin)?;
+            let list = PartList::Additions;
+            write_parts(text, labels, place, list, additions.as_slice(), begin)?;
+            text.push('}')
+        }
+    }
+}
+
+/// The elements of a value of the SEQUENCE OF or SET OF at an index, in braces (X.680 26.3 and 28.3).
+#[cycle(values)]
+fn write_elements(
+    text: &mut String,
+    labels: Labels<'_>,
+    place: usize,
+    elements: &[DefaultValue],
+) -> Result<(), AllocError> {
+    let element = elements_at(labels.types, place).unwrap_or(NO_TYPE);
+    text.push('{')?;
+    for index in 0..elements.len() {
+        if index > 0 {
+            text.push_str(", ")?;
+        }
+        write_default(text, labels, element, &elements[index])?;
+    }
+    text.push('}')
+}
+
+/// The components of a list that are there, in a value of the SEQUENCE or SET at an index (X.680 25.18 and 27). The
+/// first component of the value begins at an octet of the text.
+#[cycle(values)]
+fn write_parts(
+    text: &mut String,
+    labels: Labels<'_>,
+    place: usize,
+    list: PartList,
+    parts: &[Option<DefaultValue>],
+    begin: usize,
+) -> Result<(), AllocError> {
+    for index in 0..parts.len() {
+        if let Some(value) = &parts[index] {
+            write_part(text, labels, place, list.part(index), value, begin)?;
+        }
+    }
+    Ok(())
+}
+
+/// A component: its identifier and its value, after a comma unless it is the first; or those of a group of additions.
+#[cycle(values)]
+fn write_part(
+    text: &mut String,
+    labels: Labels<'_>,
+    place: usize,
+    part: Part,
+    value: &DefaultValue,
+    begin: usize,
+) -> Result<(), AllocError> {
+    let component = match component_at(labels.types, place, part) {
+        Some(component) => component.place,
+        None => NO_TYPE,
+    };
+    if let DefaultValue::Components(parts, _) = value {
+        if let Some(list) = group_list(labels, part, component) {
+            return write_parts(text, labels, place, list, parts.as_slice(), begin);
+        }
+    }
+    if text.len() > begin {
+        text.push_str(", ")?;
+    }
+    labels.write_part(text, place, part)?;
+    text.push(' ')?;
+    write_default(text, labels, component, value)
+}
+
+/// The components of an addition, if its type, whose index is given, is a group.
+fn group_list(labels: Labels<'_>, part: Part, component: usize) -> Option<PartList> {
+    match part {
+        Part::Addition(addition) if is_group(labels.types, component) => {
+            Some(PartList::Group(addition))
+        }
+        _ => None,
     }
 }
 

@@ -2,6 +2,7 @@
 use crate::common::Table;
 use asn1_table_types::{
     AlternativeTable, CharacterTable, Component, ComponentTable, Presence, StringTable, TypeNode,
+    is_same_value,
 };
 use std::alloc::{AllocError, Global};
 
@@ -90,12 +91,11 @@ impl Pairs {
     }
 }
 
-/// Whether two components may be absent alike. Their defaults are compared as text.
+/// Whether two components may be absent alike, with the same default.
 fn is_same_presence(one: &Presence, other: &Presence) -> bool {
     match (one, other) {
-        (Presence::Required, Presence::Required)
-        | (Presence::Optional, Presence::Optional)
-        | (Presence::Default(_), Presence::Default(_)) => true,
+        (Presence::Required, Presence::Required) | (Presence::Optional, Presence::Optional) => true,
+        (Presence::Default(one), Presence::Default(other)) => is_same_value(one, other),
         _ => false,
     }
 }

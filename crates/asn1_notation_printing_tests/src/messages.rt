@@ -7,7 +7,7 @@ use per_codec_encoder::EncoderOptions;
 use std::alloc::Global;
 
 /// Modules with the type T, messages in COER, and the same in UPER (X.696, X.691).
-const ROWS: [(&str, &[u8], &[u8]); 3] = [
+const ROWS: [(&str, &[u8], &[u8]); 4] = [
     (
         "M DEFINITIONS AUTOMATIC TAGS ::= BEGIN T ::= SEQUENCE {a INTEGER (0..7), b BOOLEAN DEFAULT TRUE, \
          ..., [[c OCTET STRING OPTIONAL]]} END",
@@ -23,6 +23,12 @@ const ROWS: [(&str, &[u8], &[u8]); 3] = [
         "M DEFINITIONS ::= BEGIN T ::= CHOICE {b [1] T, a [0] IA5String (FROM (\"a\"..\"d\")) (SIZE (1..4))} END",
         b"\x81\x80\x02\x61\x64",
         b"\x93",
+    ),
+    (
+        "M DEFINITIONS AUTOMATIC TAGS ::= BEGIN T ::= SEQUENCE {a SET {n INTEGER (0..3), f BOOLEAN DEFAULT TRUE} \
+         DEFAULT {f TRUE, n 2}, b BOOLEAN} END",
+        b"\x00\xFF",
+        b"\x40",
     ),
 ];
 

@@ -1,10 +1,10 @@
 //! Types are printed, and the texts are read as the same types.
-use crate::common::{first_table, printed, table};
+use crate::common::{Table, first_table, printed, table};
 use crate::comparing::are_same;
 use std::alloc::{AllocError, Global};
 
 /// Assignments of modules with explicit tags.
-const EXPLICIT: [&str; 12] = [
+const EXPLICIT: [&str; 13] = [
     "T ::= SEQUENCE {a BOOLEAN, b NULL, c INTEGER, d OBJECT IDENTIFIER, e OCTET STRING, f BIT STRING, g UTF8String, \
      h BMPString, i GeneralString, j GraphicString, k TeletexString, l NumericString, m PrintableString, \
      n VisibleString, o IA5String}",
@@ -20,17 +20,18 @@ const EXPLICIT: [&str; 12] = [
     "T ::= SET {b [2] BOOLEAN, a [APPLICATION 1] NULL, n INTEGER OPTIONAL, \
      c CHOICE {x [PRIVATE 4] NULL, y [6] BOOLEAN, ..., z [8] NULL}, ..., d [UNIVERSAL 9] OCTET STRING}",
     "T ::= CHOICE {leaf [0] NULL, more [1] T, flag BOOLEAN, ..., list [2] SEQUENCE OF T}",
-    "T ::= SEQUENCE {a A OPTIONAL, b B OPTIONAL} A ::= SEQUENCE {t T OPTIONAL, b B OPTIONAL} \
-     B ::= SEQUENCE {a A OPTIONAL, b B OPTIONAL}",
+    "T ::= SEQUENCE {a [0] A OPTIONAL, b [1] B OPTIONAL} A ::= SEQUENCE {t [0] T OPTIONAL, b [1] B OPTIONAL} \
+     B ::= SEQUENCE {a [0] A OPTIONAL, b [1] B OPTIONAL}",
     "T ::= SEQUENCE {r REAL OPTIONAL, c CHOICE {a [0] UTCTime, b [1] NULL}, \
      s SET {t GeneralizedTime OPTIONAL, u REAL OPTIONAL, n NULL}, l SEQUENCE OF REAL}",
     "T ::= SEQUENCE {a SEQUENCE {}, b SEQUENCE {...}, c SET {..., d NULL}}",
     "T ::= SEQUENCE {a A, b A, c N.A, d N.A} A ::= BOOLEAN END N DEFINITIONS ::= BEGIN A ::= NULL",
+    "T ::= A A ::= SEQUENCE {a A OPTIONAL, b B} B ::= BOOLEAN",
     "T ::= REAL",
 ];
 
 /// The same with automatic tags.
-const AUTOMATIC: [&str; 3] = [
+const AUTOMATIC: [&str; 5] = [
     "T ::= SEQUENCE {a A, ..., [[b A, c A OPTIONAL]], d A, [[e SEQUENCE {f NULL, ..., g NULL}]], ..., z NULL} \
      A ::= BOOLEAN",
     "T ::= SEQUENCE {a BOOLEAN DEFAULT TRUE, b INTEGER DEFAULT -5, c ENUMERATED {p, q} DEFAULT q, \
@@ -38,12 +39,37 @@ const AUTOMATIC: [&str; 3] = [
      g IA5String DEFAULT \"say \"\"hi\"\"\", h UTF8String DEFAULT \"\u{e9}\", i SEQUENCE OF INTEGER DEFAULT {1, -2}, \
      j SET OF ENUMERATED {p, q} DEFAULT {q}, k SEQUENCE OF BOOLEAN DEFAULT {}}",
     "T ::= CHOICE {a CHOICE {b NULL, c SET {d BOOLEAN, e NULL}}, ..., [[f NULL, g T]]}",
+    "T ::= SEQUENCE {a S DEFAULT {n -5, f {q}, l {{}, {n 3, l {}}}}, b SEQUENCE {} DEFAULT {}, \
+     c SET {x [9] NULL, y [3] E, z [4] S OPTIONAL} DEFAULT {x NULL, y q}, d SET OF C DEFAULT {e : q, s : {n 0}}} \
+     S ::= SEQUENCE {n INTEGER DEFAULT 0, o S OPTIONAL, f BIT STRING {p(0), q(4)} (SIZE (5)) DEFAULT {p}, \
+     l SEQUENCE OF S OPTIONAL} E ::= ENUMERATED {p, q} C ::= CHOICE {e E, s S}",
+    "T ::= SEQUENCE {a S DEFAULT {b TRUE, c 7, e {2, 1, 2}, h 5}, b S DEFAULT {b FALSE, d NULL, c 1, g FALSE}} \
+     S ::= SEQUENCE {b BOOLEAN, ..., [[d NULL OPTIONAL, c INTEGER]], e SET OF INTEGER DEFAULT {1, 2, 1}, f NULL, \
+     [[h INTEGER DEFAULT 5]], ..., g BOOLEAN DEFAULT TRUE}",
 ];
 
-/// Whether the type T of a text, printed and read again, is the same, and so is its text.
+/// What a printed type begins with.
+const BEGIN: &str = "Printed DEFINITIONS ::= BEGIN\n\n";
+
+/// Whether a printed type begins with the name of the type T; one outside the table has none.
+fn begins_right(table: &Table, written: &str) -> bool {
+    let name = match table.types.node(table.place) {
+        Some(_) => "T ::= ",
+        None => "Type ::= REAL ",
+    };
+    match written.strip_prefix(BEGIN) {
+        Some(rest) => rest.starts_with(name),
+        None => false,
+    }
+}
+
+/// Whether the type T of a text, printed and read again, is the same, and so is its text, which begins with its name.
 fn is_same(alloc: Global, text: &str) -> Option<bool> {
     let before = table(alloc, text)?;
     let written = printed(alloc, &before)?;
+    if !begins_right(&before, written.as_str()) {
+        return Some(false);
+    }
     let after = first_table(alloc, written.as_str())?;
     let again = printed(alloc, &after)?;
     if written.as_str() != again.as_str() {

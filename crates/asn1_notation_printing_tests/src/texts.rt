@@ -57,8 +57,11 @@ END
 ",
     ),
     (
-        "M DEFINITIONS ::= BEGIN T ::= SEQUENCE {a BIT STRING DEFAULT '101'B, b OCTET STRING DEFAULT 'AB'H, \
-         c UTF8String DEFAULT \"\"\"\", d SEQUENCE OF ENUMERATED {p, q} DEFAULT {q, p}, e SEQUENCE {...}} END",
+        "M DEFINITIONS AUTOMATIC TAGS ::= BEGIN T ::= SEQUENCE {a BIT STRING DEFAULT '101'B, \
+         b OCTET STRING DEFAULT 'AB'H, c UTF8String DEFAULT \"\"\"\", \
+         d SEQUENCE OF ENUMERATED {p, q} DEFAULT {q, p}, e SEQUENCE {...}, \
+         f SEQUENCE {p INTEGER OPTIONAL, ..., [[q NULL, r SET OF S]], s S DEFAULT {}} \
+         DEFAULT {q NULL, r {{t 1}, {}}, s {t 2}}} S ::= SEQUENCE {t INTEGER OPTIONAL} END",
         "Printed DEFINITIONS ::= BEGIN
 
 T ::= SEQUENCE {
@@ -68,7 +71,20 @@ T ::= SEQUENCE {
   d [3] SEQUENCE OF ENUMERATED {p(0), q(1)} DEFAULT {q, p},
   e [4] SEQUENCE {
     ...
-  }
+  },
+  f [5] SEQUENCE {
+    p [0] INTEGER OPTIONAL,
+    ...,
+    [[
+      q [1] NULL,
+      r [2] SET OF S
+    ]],
+    s [3] S DEFAULT {}
+  } DEFAULT {q NULL, r {{t 1}, {}}, s {t 2}}
+}
+
+S ::= SEQUENCE {
+  t [0] INTEGER OPTIONAL
 }
 
 END

@@ -1,8 +1,12 @@
 //! What a type is after its references and tags.
-use crate::errors::{NotationError, Problem};
-use crate::references::referenced;
-use crate::scopes::{Files, Scope, Symbol, TypeUse};
-use asn1_notation_tree::{ConstraintIndex, Tagging, TypeKind, TypeTerm};
+ghost use Rattle.std.specs.Prelude.{◌≡◌};
+
+use asn1_notation_names::{
+    Files, NotationError, Problem, Scope, Symbol, TypeUse, referenced, type_of_field,
+};
+use asn1_notation_tree::{
+    ConstraintIndex, Tagging, TaggingMode, TypeKind, TypeTerm, UnsupportedType,
+};
 use std::alloc::Global;
 
 /// How many references and tags are followed from a type to its kind.
@@ -14,7 +18,9 @@ const MOST_LEVELS: u32 = 64;
 /// A constraint, and the module in which it is written.
 #[derive(Clone, Copy)]
 pub struct ConstraintUse {
+    /// The module.
     pub scope: Scope,
+    /// The index of its term.
     pub index: ConstraintIndex,
 }
 
@@ -37,7 +43,11 @@ pub struct Base<'a> {
 
 impl Base<'_> {
     /// An error where the kind is written.
-    pub fn error(&self, problem: Problem) -> NotationError {
+    pub fn error(&self, problem: Problem) -> NotationError
+        ensures file { result.file ≡ self.now.at.scope.file }
+        ensures place { result.place ≡ self.now.term.now.place }
+        ensures problem { result.problem ≡ problem }
+    {
         self.at.scope.error(self.term.place, problem)
     }
 }
@@ -58,43 +68,81 @@ fn add_constraints(
     Ok(())
 }
 
-/// A type without its references and tags (X.680 14.1 and 31).
+/// The error of a tag at an item before an untagged CHOICE, if it is IMPLICIT.
+fn implicit_error(scope: Scope, place: usize, tagging: &Tagging) -> Option<NotationError> {
+    match tagging.mode {
+        Some(TaggingMode::Implicit) => Some(scope.error(place, Problem::ImplicitChoice)),
+        _ => None,
+    }
+}
+
+/// Refuses a CHOICE after a tag with this error.
+fn check_implicit(kind: &TypeKind, error: Option<NotationError>) -> Result<(), NotationError> {
+    match (kind, error) {
+        (TypeKind::Choice(_), Some(error)) => Err(error),
+        _ => Ok(()),
+    }
+}
+
+/// The type of the values of a field of a class (X.681 14), if the kind is one and it is no open type.
+fn field_type(
+    files: &Files<'_, '_>,
+    scope: Scope,
+    kind: &TypeKind,
+) -> Result<Option<TypeUse>, NotationError> {
+    match kind {
+        TypeKind::Unsupported(UnsupportedType::Field(class, names)) => {
+            type_of_field(files, scope, class, names.as_slice())
+        }
+        _ => Ok(None),
+    }
+}
+
+/// A type without its references and tags (X.680 14.1 and 31, X.681 14). The last tag may not be IMPLICIT before a
+/// CHOICE (X.680 31.2.9).
+///
+/// # Errors
+///
+/// Those of a reference to a type (`referenced`) and of a field of a class (`type_of_field`). `ImplicitChoice` at such
+/// a tag, and `Circular` at the type after 64 references and tags.
 pub fn base_of<'a>(
     alloc: Global,
     files: &mut Files<'a, '_>,
     start: TypeUse,
 ) -> Result<Base<'a>, NotationError> {
-    let mut at = start;
-    let mut symbol = None;
-    let mut tag = None;
-    let mut constraints = Vec::new(alloc);
+    let mut base = Base {
+        at: start,
+        term: files.type_term(start)?,
+        symbol: None,
+        tag: None,
+        constraints: Vec::new(alloc),
+        outer: 0,
+    };
+    let mut implicit = None;
     for _ in 0..MOST_STEPS {
+        let at = base.at;
         let term = files.type_term(at)?;
-        let outer = constraints.len();
-        add_constraints(&mut constraints, at.scope, term)?;
+        base.term = term;
+        base.outer = base.constraints.len();
+        add_constraints(&mut base.constraints, at.scope, term)?;
         match &term.kind {
             TypeKind::Tagged(tagging, inner) => {
-                if tag.is_none() {
-                    tag = Some((at.scope, tagging));
-                }
-                symbol = None;
-                at.index = *inner;
+                base.tag = base.tag.or(Some((at.scope, tagging)));
+                implicit = implicit_error(at.scope, term.place, tagging);
+                base.symbol = None;
+                base.at.index = *inner;
             }
             TypeKind::Reference(reference) => {
-                (symbol, at) = referenced(files, at.scope, reference, MOST_LEVELS)?;
+                (base.symbol, base.at) = referenced(files, at.scope, reference, MOST_LEVELS)?;
             }
-            _ => {
-                return Ok(Base {
-                    at,
-                    term,
-                    symbol,
-                    tag,
-                    constraints,
-                    outer,
-                });
-            }
+            kind => match field_type(files, at.scope, kind)? {
+                Some(next) => (base.symbol, base.at) = (None, next),
+                None => {
+                    check_implicit(kind, implicit)?;
+                    return Ok(base);
+                }
+            },
         }
     }
-    let place = files.type_term(start)?.place;
-    Err(start.scope.error(place, Problem::Circular))
+    Err(start.error(files, Problem::Circular))
 }

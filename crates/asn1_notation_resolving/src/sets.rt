@@ -1,11 +1,13 @@
 //! Which numbers, sizes and characters the constraints of a type allow, as far as PER and OER see them (X.691 10.3,
 //! X.696 8.2).
+ghost use Rattle.std.specs.Prelude.{◌≡◌};
+
 use crate::bases::{Base, ConstraintUse, base_of};
-use crate::errors::{NotationError, Problem};
-use crate::numbers::{ValueUse, integer_of, settled};
-use crate::scopes::{Files, Scope, TypeUse};
 use asn1_notation_constraints::{ConstraintTerm, Visible, effective};
-use asn1_notation_intervals::Interval;
+use asn1_notation_intervals::{Interval, NumberSet};
+use asn1_notation_names::{
+    Files, NotationError, Problem, Scope, TypeUse, ValueUse, integer_of, settled,
+};
 use asn1_notation_tree::{
     ConstraintIndex, ConstraintKind, Limit, NamedNumber, RangeEnd, TypeKind, ValueIndex, ValueKind,
 };
@@ -30,29 +32,108 @@ pub enum Aspect {
 
 /// What PER and OER see of the constraints of a type, applied one after the other (X.680 50.8); none if they see none.
 /// Constraints of another aspect do not count.
+///
+/// # Errors
+///
+/// `TooDeep` at a constraint in 64 others, `ValueOfOtherType` at a value that is no text or no single character. Those
+/// of `integer_of`, `settled` and `base_of`.
 pub fn visible(
     alloc: Global,
     files: &mut Files<'_, '_>,
     base: &Base<'_>,
     aspect: Aspect,
 ) -> Result<Option<Visible>, NotationError> {
-    let numbers: &[NamedNumber] = match &base.term.kind {
-        TypeKind::Integer(numbers) => numbers.as_slice(),
-        _ => &[],
-    };
-    let mut terms = Terms {
-        alloc,
-        scope: base.at.scope,
-        numbers,
-        terms: Vec::new(alloc),
-    };
-    let roots = terms.add_all(files, base.constraints.as_slice(), aspect, MOST_LEVELS)?;
-    let place = base.term.place;
+    let mut terms = Terms::new(alloc, base);
+    let roots = terms.add_all(files, base.constraints.as_slice(), Sought::of(aspect))?;
     match effective(alloc, terms.terms.as_slice(), roots.as_slice()) {
         Ok(visible) if visible.is_visible => Ok(Some(visible)),
         Ok(_) => Ok(None),
-        Err(_) => Err(base.at.scope.error(place, Problem::OutOfMemory)),
+        Err(_) => Err(NotationError::new(Problem::OutOfMemory)),
     }
+}
+
+/// Refuses a constraint with a value that the type before it does not have (X.680 51.2 and 51.4), and one after which
+/// no value is left. The numbers, sizes or characters of the type without constraints are given. A type whose last
+/// constraint has an extension marker may have all of them.
+///
+/// # Errors
+///
+/// `OutsideParent` or `SizeOutOfRange` at the value, `EmptyConstraint` at the constraint. Those of `visible`.
+pub fn check_values(
+    alloc: Global,
+    files: &mut Files<'_, '_>,
+    base: &Base<'_>,
+    aspect: Aspect,
+    own: NumberSet,
+) -> Result<(), NotationError> {
+    let mut parent = own;
+    let mut is_extensible = false;
+    let count = base.constraints.len();
+    for back in 0..count {
+        let ConstraintUse { scope, index } = base.constraints[count - 1 - back];
+        let mut terms = Terms::new(alloc, base);
+        let Some(root) = terms.add_constraint(files, scope, index, Sought::of(aspect))? else {
+            continue;
+        };
+        if !is_extensible {
+            terms.check_written(files, aspect, &parent)?;
+        }
+        let Ok(seen) = effective(alloc, terms.terms.as_slice(), &[root]) else {
+            return Err(NotationError::new(Problem::OutOfMemory));
+        };
+        parent = parent.intersection(alloc, &seen.numbers)?;
+        is_extensible = seen.is_extensible;
+        if parent.hull().is_none() {
+            let place = files.constraint_term(scope, index)?.place;
+            return Err(scope.error(place, Problem::EmptyConstraint));
+        }
+    }
+    Ok(())
+}
+
+/// Whether a number is in a set.
+pub fn has_number(set: &NumberSet, number: i128) -> bool {
+    let one = Interval {
+        low: Some(number),
+        high: Some(number),
+    };
+    set.intervals()
+        .iter()
+        .any(|interval| interval.meet(one).has_number())
+}
+
+/// What is looked for in a constraint, and in how many levels of constraints.
+#[derive(Clone, Copy)]
+struct Sought {
+    aspect: Aspect,
+    levels: u32,
+}
+
+impl Sought {
+    /// The aspect of a whole constraint.
+    fn of(aspect: Aspect) -> Self {
+        Sought {
+            aspect,
+            levels: MOST_LEVELS,
+        }
+    }
+
+    /// Another aspect at the same level.
+    fn with(self, aspect: Aspect) -> Self
+        ensures { result.levels ≡ self.levels }
+    {
+        Sought {
+            aspect,
+            levels: self.levels,
+        }
+    }
+}
+
+/// A number or character that is written in a constraint.
+#[derive(Clone, Copy)]
+struct Written {
+    number: i128,
+    value: ValueUse,
 }
 
 /// The constraints of a type as a table of parts.
@@ -64,9 +145,44 @@ struct Terms<'a> {
     /// The named numbers of the type.
     numbers: &'a [NamedNumber],
     terms: Vec<ConstraintTerm>,
+    /// The values in them, without those of contained types.
+    written: Vec<Written>,
 }
 
-impl Terms<'_> {
+impl<'a> Terms<'a> {
+    /// No parts.
+    fn new(alloc: Global, base: &Base<'a>) -> Self {
+        let numbers: &[NamedNumber] = match &base.term.kind {
+            TypeKind::Integer(numbers) => numbers.as_slice(),
+            _ => &[],
+        };
+        Terms {
+            alloc,
+            scope: base.at.scope,
+            numbers,
+            terms: Vec::new(alloc),
+            written: Vec::new(alloc),
+        }
+    }
+
+    /// Refuses a written value that a type does not have, by the numbers, sizes or characters that it has.
+    fn check_written(
+        &self,
+        files: &Files<'_, '_>,
+        aspect: Aspect,
+        parent: &NumberSet,
+    ) -> Result<(), NotationError> {
+        for written in &self.written {
+            if aspect == Aspect::Sizes && written.number > i128::from(u64::MAX) {
+                return Err(written.value.error(files, Problem::SizeOutOfRange));
+            }
+            if !has_number(parent, written.number) {
+                return Err(written.value.error(files, Problem::OutsideParent));
+            }
+        }
+        Ok(())
+    }
+
     /// Adds a part, and returns its index.
     fn add(&mut self, term: ConstraintTerm) -> Result<usize, NotationError> {
         let index = self.terms.len();
@@ -80,20 +196,12 @@ impl Terms<'_> {
         &mut self,
         files: &mut Files<'_, '_>,
         constraints: &[ConstraintUse],
-        aspect: Aspect,
-        levels: u32,
+        sought: Sought,
     ) -> Result<Vec<usize>, NotationError> {
         let mut roots = Vec::new(self.alloc);
         for back in 0..constraints.len() {
-            let constraint = constraints[constraints.len() - 1 - back];
-            let root = self.add_constraint(
-                files,
-                constraint.scope,
-                constraint.index,
-                aspect,
-                levels,
-            )?;
-            if let Some(root) = root {
+            let ConstraintUse { scope, index } = constraints[constraints.len() - 1 - back];
+            if let Some(root) = self.add_constraint(files, scope, index, sought)? {
                 roots.push(root)?;
             }
         }
@@ -107,46 +215,35 @@ impl Terms<'_> {
         files: &mut Files<'_, '_>,
         scope: Scope,
         index: ConstraintIndex,
-        aspect: Aspect,
-        levels: u32,
+        sought: Sought,
     ) -> Result<Option<usize>, NotationError> {
         let term = files.constraint_term(scope, index)?;
+        let Sought { aspect, levels } = sought;
         if levels == 0 {
             return Err(scope.error(term.place, Problem::TooDeep));
         }
-        let below = levels - 1;
+        let below = Sought {
+            aspect,
+            levels: levels - 1,
+        };
         match &term.kind {
-            ConstraintKind::Extensible(root, _) => {
-                self.add_extensible(files, scope, *root, aspect, below)
-            }
+            ConstraintKind::Extensible(root, _) => self.add_extensible(files, scope, *root, below),
             ConstraintKind::Single(value) => self.add_single(files, scope, *value, aspect),
             ConstraintKind::Range(low, high) => self.add_range(files, scope, *low, *high, aspect),
             ConstraintKind::Size(inner) if aspect == Aspect::Sizes => {
-                self.add_constraint(files, scope, *inner, Aspect::Numbers, below)
+                self.add_constraint(files, scope, *inner, below.with(Aspect::Numbers))
             }
             ConstraintKind::From(inner) if aspect == Aspect::Alphabet => {
-                self.add_constraint(files, scope, *inner, Aspect::Characters, below)
+                self.add_constraint(files, scope, *inner, below.with(Aspect::Characters))
             }
-            ConstraintKind::Contained(inner) => self.add_contained(
-                files, scope, *inner, aspect, below,
-            ),
-            ConstraintKind::Union(parts) => self.add_union(
-                files,
-                scope,
-                parts.as_slice(),
-                aspect,
-                below,
-            ),
+            ConstraintKind::Contained(inner) => self.add_contained(files, scope, *inner, below),
+            ConstraintKind::Union(parts) => self.add_union(files, scope, parts.as_slice(), below),
             ConstraintKind::Intersection(parts) => {
-                self.add_intersection(files, scope, parts.as_slice(), aspect, below)
+                self.add_intersection(files, scope, parts.as_slice(), below)
             }
-            ConstraintKind::Except(first, _) => {
-                self.add_constraint(files, scope, *first, aspect, below)
-            }
-            ConstraintKind::Size(_)
-            | ConstraintKind::From(_)
-            | ConstraintKind::AllExcept(_)
-            | ConstraintKind::Unseen(_) => Ok(None),
+            ConstraintKind::Except(first, _) => self.add_constraint(files, scope, *first, below),
+            ConstraintKind::Size(_) | ConstraintKind::From(_) => Ok(None),
+            ConstraintKind::AllExcept(_) | ConstraintKind::Unseen(_) => Ok(None),
         }
     }
 
@@ -157,10 +254,9 @@ impl Terms<'_> {
         files: &mut Files<'_, '_>,
         scope: Scope,
         root: ConstraintIndex,
-        aspect: Aspect,
-        levels: u32,
+        sought: Sought,
     ) -> Result<Option<usize>, NotationError> {
-        match self.add_constraint(files, scope, root, aspect, levels)? {
+        match self.add_constraint(files, scope, root, sought)? {
             None => Ok(None),
             Some(root) => {
                 let extensible = ConstraintTerm::Extensible {
@@ -179,15 +275,13 @@ impl Terms<'_> {
         files: &mut Files<'_, '_>,
         scope: Scope,
         index: usize,
-        aspect: Aspect,
-        levels: u32,
+        sought: Sought,
     ) -> Result<Option<usize>, NotationError> {
         let base = base_of(self.alloc, files, TypeUse { scope, index })?;
-        let roots = self.add_all(files, base.constraints.as_slice(), aspect, levels)?;
-        if roots.is_empty() {
-            return Ok(None);
-        }
-        Ok(Some(self.add(ConstraintTerm::Intersection(roots))?))
+        let count = self.written.len();
+        let roots = self.add_all(files, base.constraints.as_slice(), sought)?;
+        self.written.truncate(count);
+        self.add_meet(roots)
     }
 
     /// Adds a union. If one of its parts is of another aspect, it admits all.
@@ -197,12 +291,11 @@ impl Terms<'_> {
         files: &mut Files<'_, '_>,
         scope: Scope,
         parts: &[ConstraintIndex],
-        aspect: Aspect,
-        levels: u32,
+        sought: Sought,
     ) -> Result<Option<usize>, NotationError> {
         let mut all = Vec::new(self.alloc);
         for part in parts {
-            match self.add_constraint(files, scope, *part, aspect, levels)? {
+            match self.add_constraint(files, scope, *part, sought)? {
                 None => return Ok(None),
                 Some(part) => all.push(part)?,
             }
@@ -217,19 +310,23 @@ impl Terms<'_> {
         files: &mut Files<'_, '_>,
         scope: Scope,
         parts: &[ConstraintIndex],
-        aspect: Aspect,
-        levels: u32,
+        sought: Sought,
     ) -> Result<Option<usize>, NotationError> {
         let mut all = Vec::new(self.alloc);
         for part in parts {
-            if let Some(part) = self.add_constraint(files, scope, *part, aspect, levels)? {
+            if let Some(part) = self.add_constraint(files, scope, *part, sought)? {
                 all.push(part)?;
             }
         }
-        if all.is_empty() {
+        self.add_meet(all)
+    }
+
+    /// Adds the intersection of parts, if there are any.
+    fn add_meet(&mut self, parts: Vec<usize>) -> Result<Option<usize>, NotationError> {
+        if parts.is_empty() {
             return Ok(None);
         }
-        Ok(Some(self.add(ConstraintTerm::Intersection(all))?))
+        Ok(Some(self.add(ConstraintTerm::Intersection(parts))?))
     }
 
     /// Adds a single value: a number, or the characters of a string in FROM.
@@ -244,6 +341,7 @@ impl Terms<'_> {
         match aspect {
             Aspect::Numbers => {
                 let number = self.number(files, value)?;
+                self.written.push(Written { number, value })?;
                 Ok(Some(self.add_interval(Some(number), Some(number))?))
             }
             Aspect::Characters => Ok(Some(self.add_characters(files, value)?)),
@@ -281,7 +379,7 @@ impl Terms<'_> {
 
     /// An end of a range, which is `inside` further in if it is open.
     fn end(
-        &self,
+        &mut self,
         files: &Files<'_, '_>,
         scope: Scope,
         end: RangeEnd,
@@ -297,6 +395,7 @@ impl Terms<'_> {
             _ => self.number(files, value)?,
         };
         if !end.is_open {
+            self.written.push(Written { number, value })?;
             return Ok(Some(number));
         }
         match number.checked_add(inside) {
@@ -318,8 +417,9 @@ impl Terms<'_> {
     ) -> Result<usize, NotationError> {
         let mut all = Vec::new(self.alloc);
         for character in text_of(files, value)?.chars() {
-            let number = Some(i128::from(u32::from(character)));
-            all.push(self.add_interval(number, number)?)?;
+            let number = i128::from(u32::from(character));
+            self.written.push(Written { number, value })?;
+            all.push(self.add_interval(Some(number), Some(number))?)?;
         }
         self.add(ConstraintTerm::Union(all))
     }

@@ -1,13 +1,15 @@
 //! The tags with which the types begin (X.680 8 and 31).
 use crate::bases::{Base, base_of};
-use crate::errors::{NotationError, Problem};
-use crate::numbers::{ValueUse, number_of};
-use crate::scopes::{Files, Scope, TypeUse};
+use asn1_notation_names::{Files, NotationError, Problem, Scope, TypeUse, ValueUse, number_of};
 use asn1_notation_tree::{StringName, TagClass, Tagging, TypeKind, UnsupportedType};
 use asn1_schema_tags::{Class, Tag};
 use std::alloc::Global;
 
 /// The tag that is written before a type (X.680 31.2).
+///
+/// # Errors
+///
+/// `TagOutOfRange` at its number. Those of `number_of`.
 pub fn written_tag(
     files: &Files<'_, '_>,
     scope: Scope,
@@ -85,6 +87,10 @@ fn unsupported_number(unsupported: &UnsupportedType) -> Option<u32> {
 }
 
 /// The outermost tag of a type, if it has one.
+///
+/// # Errors
+///
+/// Those of `written_tag`.
 pub fn own_tag(files: &Files<'_, '_>, base: &Base<'_>) -> Result<Option<Tag>, NotationError> {
     if let Some((scope, tagging)) = base.tag {
         return Ok(Some(written_tag(files, scope, tagging)?));
@@ -94,11 +100,19 @@ pub fn own_tag(files: &Files<'_, '_>, base: &Base<'_>) -> Result<Option<Tag>, No
 }
 
 /// Whether a type is written with a tag of its own.
+///
+/// # Errors
+///
+/// Those of `Files::type_term`.
 pub fn is_written_tagged(files: &Files<'_, '_>, at: TypeUse) -> Result<bool, NotationError> {
     Ok(matches!(files.type_term(at)?.kind, TypeKind::Tagged(..)))
 }
 
 /// The base of a type, and its outermost tag, if it has one.
+///
+/// # Errors
+///
+/// Those of `base_of`, and of a number of a tag: `TagOutOfRange` at it, and those of `number_of`.
 pub fn tagged_base<'a>(
     alloc: Global,
     files: &mut Files<'a, '_>,

@@ -5,8 +5,9 @@ use asn1_notation_tokens::{ItemKind, Symbol, Word};
 use asn1_notation_tree::{
     Addition, AdditionGroup, Component, Components, Expected, Presence, ValueIndex,
 };
+use std::alloc::Global;
 
-/// Components in braces; in a CHOICE alternatives.
+/// Components in braces. In a CHOICE alternatives: at least one, and none after a second extension marker (X.680 29.1).
 #[cycle(types)]
 pub fn read_components(
     parser: &mut Parser<'_>,
@@ -14,18 +15,14 @@ pub fn read_components(
     is_choice: bool,
 ) -> Parsed<Components> {
     parser.expect(Symbol::LeftBrace)?;
-    let mut components = Components {
-        root: Vec::new(parser.alloc),
-        is_extensible: false,
-        additions: Vec::new(parser.alloc),
-        second_root: Vec::new(parser.alloc),
-    };
-    if parser.eat(Symbol::RightBrace) {
+    let mut components = no_components(parser.alloc);
+    if !is_choice && parser.eat(Symbol::RightBrace) {
         return Ok(components);
     }
     let mut is_ended = false;
     for _ in 0..parser.left() {
-        if parser.sees(Symbol::Ellipsis) && !is_ended {
+        let may_extend = !is_ended && !(is_choice && components.root.is_empty());
+        if may_extend && parser.sees(Symbol::Ellipsis) {
             parser.advance();
             skip_exception(parser, depth)?;
             is_ended = components.is_extensible;
@@ -40,12 +37,26 @@ pub fn read_components(
             let component = read_component(parser, depth, is_choice)?;
             components.root.push(component)?;
         }
-        if !parser.eat(Symbol::Comma) {
+        if (is_choice && is_ended) || !parser.eat(Symbol::Comma) {
             break;
         }
     }
-    parser.end_list(Symbol::RightBrace)?;
+    if is_choice && is_ended {
+        parser.expect(Symbol::RightBrace)?;
+    } else {
+        parser.end_list(Symbol::RightBrace)?;
+    }
     Ok(components)
+}
+
+/// No components and no extension marker.
+fn no_components(alloc: Global) -> Components {
+    Components {
+        root: Vec::new(alloc),
+        is_extensible: false,
+        additions: Vec::new(alloc),
+        second_root: Vec::new(alloc),
+    }
 }
 
 /// What comes after an extension marker: a component or a group.

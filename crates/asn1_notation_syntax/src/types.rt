@@ -33,9 +33,9 @@ pub fn read_type(parser: &mut Parser<'_>, depth: usize) -> Parsed<TypeIndex> {
         }
         ItemKind::Word(word) => read_simple(parser, word)?,
         ItemKind::Reference => read_named(parser, inner)?,
-        ItemKind::Identifier => {
+        ItemKind::Identifier if parser.peek_after(1) == ItemKind::Symbol(Symbol::Less) => {
             let name = parser.identifier()?;
-            parser.expect(Symbol::Less)?;
+            parser.advance();
             TypeKind::Unsupported(UnsupportedType::Selection(name, read_type(parser, inner)?))
         }
         _ => return Err(parser.expected(Expected::Type)),

@@ -1,16 +1,20 @@
 //! The nodes of a table (X.680 18 to 41).
-use crate::defaults::{default_of, fixed_size};
-use crate::parts::{Part, Parts, TaggedPart, alternatives_of, ordered, parts_of, tags_of_part};
-use crate::tables::Additions;
+use crate::defaults::Defaults;
+use crate::events::fixed_size;
+use crate::parts::{is_last_of_group, is_required, root_order};
+use crate::tables::{OpenTypes, TableOptions};
+use asn1_notation_components::{
+    Part, Parts, TaggedPart, alternatives_of, check_sequence, check_set, parts_of, tags_of_part,
+};
 use asn1_notation_resolving::{
-    Base, Files, NotationError, Numbered, Problem, Scope, TypeUse, ValueUse, alphabet, base_of,
-    number_limits, number_of, numbers_of, sizes,
+    Base, Files, NameSet, NotationError, Numbered, Problem, Scope, Symbol, TypeUse, ValueUse,
+    alphabet, base_of, check_kinds, number_limits, number_of, numbers_of, sizes, tagged_base,
 };
 use asn1_notation_tree::{
     Components, Element, Enumeration, NamedNumber, Presence as WrittenPresence, StringName,
-    TypeKind,
+    TypeKind, UnsupportedType,
 };
-use asn1_schema_constraints::Sizes;
+use asn1_schema_constraints::{Bounded, Sizes};
 use asn1_schema_tags::Tag;
 use asn1_table_names::{NamedNumber as NumberName, TypeNames};
 use asn1_table_types::{
@@ -19,8 +23,14 @@ use asn1_table_types::{
 };
 use asn1_values_integers::Integer;
 use std::alloc::Global;
-use std::collections::BTreeMap;
+use std::collections::{BTreeMap, BTreeSet};
 use std::mem;
+
+/// All sizes.
+const ANY_SIZE: Sizes = Sizes {
+    root: Bounded::None,
+    is_extensible: false,
+};
 
 /// An index outside each table, where a type without values is.
 const NO_TYPE: usize = usize::MAX;
@@ -57,7 +67,8 @@ impl Origin {
 pub(crate) struct Building<'a, 'i> {
     alloc: Global,
     pub(crate) files: Files<'a, 'i>,
-    additions: Additions,
+    options: TableOptions,
+    defaults: Defaults,
     pub(crate) nodes: Vec<TypeNode>,
     pub(crate) names: Vec<TypeNames>,
     pub(crate) origins: Vec<Origin>,
@@ -70,12 +81,13 @@ impl<'a, 'i> Building<'a, 'i> {
     pub(crate) fn new(
         alloc: Global,
         files: Files<'a, 'i>,
-        additions: Additions,
+        options: TableOptions,
     ) -> Building<'a, 'i> {
         Building {
             alloc,
             files,
-            additions,
+            options,
+            defaults: Defaults::new(alloc, options.additions),
             nodes: Vec::new(alloc),
             names: Vec::new(alloc),
             origins: Vec::new(alloc),
@@ -87,7 +99,7 @@ impl<'a, 'i> Building<'a, 'i> {
     /// outside the table.
     pub(crate) fn place_of(&mut self, at: TypeUse) -> Result<usize, NotationError> {
         let base = base_of(self.alloc, &mut self.files, at)?;
-        if matches!(base.term.kind, TypeKind::Unsupported(_)) {
+        if !self.has_values(&base.term.kind) {
             return Ok(NO_TYPE);
         }
         let key = if base.outer == 0 { base.at } else { at };
@@ -99,6 +111,17 @@ impl<'a, 'i> Building<'a, 'i> {
         Ok(place)
     }
 
+    /// Whether tables hold a type of this kind.
+    fn has_values(&self, kind: &TypeKind) -> bool {
+        match kind {
+            TypeKind::Unsupported(UnsupportedType::Field(..)) => {
+                self.options.open_types == OpenTypes::AreOctets
+            }
+            TypeKind::Unsupported(_) => false,
+            _ => true,
+        }
+    }
+
     /// The names of a type, as far as its reference gives them.
     fn names_of(&self, base: &Base<'_>) -> Result<TypeNames, NotationError> {
         let mut names = TypeNames::new(self.alloc);
@@ -108,6 +131,17 @@ impl<'a, 'i> Building<'a, 'i> {
             }
         }
         Ok(names)
+    }
+
+    /// Names a type after its assignment.
+    pub(crate) fn set_name(&mut self, place: usize, symbol: Symbol) -> Result<(), NotationError> {
+        if let (Some(names), Some(assignment)) = (
+            self.names.get_mut(place),
+            self.files.assignment(symbol),
+        ) {
+            names.name = String::from_str(self.alloc, assignment.name.text.as_str())?;
+        }
+        Ok(())
     }
 
     /// Adds a type.
@@ -124,12 +158,24 @@ impl<'a, 'i> Building<'a, 'i> {
         Ok(place)
     }
 
+    /// Builds all types, also those that are met meanwhile.
+    pub(crate) fn build_all(&mut self) -> Result<(), NotationError> {
+        for next in 0..usize::MAX {
+            if next >= self.nodes.len() {
+                break;
+            }
+            self.build(next)?;
+        }
+        Ok(())
+    }
+
     /// Builds the type at an index.
-    pub(crate) fn build(&mut self, place: usize) -> Result<(), NotationError> {
+    fn build(&mut self, place: usize) -> Result<(), NotationError> {
         let Some(Origin::Type(at)) = self.origins.get(place).copied() else {
             return Ok(());
         };
-        let base = base_of(self.alloc, &mut self.files, at)?;
+        let (base, _) = tagged_base(self.alloc, &mut self.files, at)?;
+        check_kinds(self.alloc, &self.files, &base)?;
         let mut names = self.names_of(&base)?;
         let node = self.node_of(&base, &mut names)?;
         if let (Some(known), Some(known_names)) = (
@@ -172,6 +218,10 @@ impl<'a, 'i> Building<'a, 'i> {
                 Ok(TypeNode::Set(self.components(base, components, true, names)?))
             }
             TypeKind::Choice(components) => self.choice(base, components, names),
+            // An open type, whose constraints say nothing of its octets.
+            TypeKind::Unsupported(UnsupportedType::Field(..)) => {
+                Ok(TypeNode::OctetString(ANY_SIZE))
+            }
             TypeKind::Tagged(..) | TypeKind::Reference(_) | TypeKind::Unsupported(_) => {
                 Err(base.error(Problem::UnsupportedType))
             }
@@ -183,7 +233,7 @@ impl<'a, 'i> Building<'a, 'i> {
         sizes(self.alloc, &mut self.files, base)
     }
 
-    /// The names of numbers.
+    /// The names of numbers, no two of which have one name or one number (X.680 19.4, 19.5 and 22.3).
     fn number_names(
         &self,
         base: &Base<'_>,
@@ -191,13 +241,34 @@ impl<'a, 'i> Building<'a, 'i> {
         names: &mut TypeNames,
     ) -> Result<(), NotationError> {
         let scope = base.at.scope;
+        let mut known = NameSet::new(self.alloc);
+        let mut values = BTreeSet::new(self.alloc);
         for number in numbers {
+            known.add(scope, number.name.place, &number.name)?;
             let index = number.number;
-            let value = number_of(&self.files, ValueUse { scope, index })?;
+            let written = ValueUse { scope, index };
+            let value = number_of(&self.files, written)?;
+            if !values.insert(value)? {
+                return Err(written.error(&self.files, Problem::NumberTwice));
+            }
             names.numbers.push(NumberName {
                 name: String::from_str(self.alloc, number.name.text.as_str())?,
                 number: Integer::from_i128(value),
             })?;
+        }
+        Ok(())
+    }
+
+    /// Refuses named bits with negative numbers (X.680 22.1).
+    fn check_bits(&self, base: &Base<'_>, bits: &[NamedNumber]) -> Result<(), NotationError> {
+        for bit in bits {
+            let value = ValueUse {
+                scope: base.at.scope,
+                index: bit.number,
+            };
+            if number_of(&self.files, value)? < 0 {
+                return Err(value.error(&self.files, Problem::NegativeBit));
+            }
         }
         Ok(())
     }
@@ -251,6 +322,7 @@ impl<'a, 'i> Building<'a, 'i> {
         names: &mut TypeNames,
     ) -> Result<TypeNode, NotationError> {
         self.number_names(base, bits, names)?;
+        self.check_bits(base, bits)?;
         let sizes = self.sizes(base)?;
         if !bits.is_empty() && fixed_size(&sizes).is_none() {
             return Err(base.error(Problem::NamedBits));
@@ -258,29 +330,24 @@ impl<'a, 'i> Building<'a, 'i> {
         Ok(TypeNode::BitString(sizes))
     }
 
-    /// A restricted character string (X.680 41).
+    /// A restricted character string (X.680 41). Encodings depend on the size of known-multiplier types alone (X.691
+    /// 30.1, X.696 27).
     fn character_string(
         &mut self,
         base: &Base<'_>,
         name: StringName,
     ) -> Result<TypeNode, NotationError> {
-        let kind = match name {
-            StringName::Bmp => StringKind::Bmp,
-            StringName::General => StringKind::General,
-            StringName::Graphic => StringKind::Graphic,
-            StringName::Ia5 => StringKind::Ia5,
-            StringName::Numeric => StringKind::Numeric,
-            StringName::Printable => StringKind::Printable,
-            StringName::Teletex => StringKind::Teletex,
-            StringName::Utf8 => StringKind::Utf8,
-            StringName::Visible => StringKind::Visible,
-            StringName::Universal | StringName::Videotex => {
-                return Err(base.error(Problem::UnsupportedType));
-            }
+        let Some(kind) = string_kind(name) else {
+            return Err(base.error(Problem::UnsupportedType));
         };
+        let sizes = self.sizes(base)?;
         Ok(TypeNode::CharacterString(StringTable {
             kind,
-            sizes: self.sizes(base)?,
+            sizes: if has_known_multiplier(kind) {
+                sizes
+            } else {
+                ANY_SIZE
+            },
             alphabet: alphabet(self.alloc, &mut self.files, base, kind)?,
         }))
     }
@@ -305,19 +372,17 @@ impl<'a, 'i> Building<'a, 'i> {
         tags: Vec<Tag>,
         is_added: bool,
     ) -> Result<Component, NotationError> {
-        let may_be_absent = is_added && matches!(self.additions, Additions::MayBeAbsent);
         let presence = match part.presence {
-            WrittenPresence::Required if may_be_absent => Presence::Optional,
-            WrittenPresence::Required => Presence::Required,
-            WrittenPresence::Optional => Presence::Optional,
             WrittenPresence::Default(index) => {
                 let value = ValueUse {
                     scope: part.at.scope,
                     index,
                 };
                 let base = base_of(self.alloc, &mut self.files, part.at)?;
-                Presence::Default(default_of(self.alloc, &mut self.files, &base, value)?)
+                Presence::Default(self.defaults.read(&mut self.files, &base, value)?)
             }
+            written if is_required(written, self.options.additions, is_added) => Presence::Required,
+            _ => Presence::Optional,
         };
         Ok(Component {
             tags,
@@ -340,13 +405,24 @@ impl<'a, 'i> Building<'a, 'i> {
         is_set: bool,
         names: &mut TypeNames,
     ) -> Result<ComponentTable, NotationError> {
-        let parts = parts_of(self.alloc, &mut self.files, base.at.scope, components)?;
+        let parts = parts_of(
+            self.alloc,
+            &mut self.files,
+            base.at.scope,
+            components,
+            is_set,
+        )?;
+        if is_set {
+            check_set(self.alloc, &mut self.files, &parts)?;
+        } else {
+            check_sequence(self.alloc, &mut self.files, &parts)?;
+        }
         let mut table = ComponentTable {
             root: Vec::new(self.alloc),
             is_extensible: parts.is_extensible,
             additions: Vec::new(self.alloc),
         };
-        for index in self.root_order(&parts, is_set)? {
+        for index in root_order(self.alloc, &mut self.files, &parts, is_set)? {
             if let Some(part) = parts.root.get(index).copied() {
                 let automatic = if is_set {
                     parts.root_tag(index)
@@ -360,24 +436,6 @@ impl<'a, 'i> Building<'a, 'i> {
         }
         self.add_additions(&parts, is_set, &mut table.additions, names)?;
         Ok(table)
-    }
-
-    /// The indices of root components: as they are written, or for a SET in the order of their least tags.
-    fn root_order(&mut self, parts: &Parts<'a>, is_set: bool) -> Result<Vec<usize>, NotationError> {
-        let mut least = Vec::new(self.alloc);
-        let mut order = Vec::new(self.alloc);
-        for index in 0..parts.root.len() {
-            order.push(index)?;
-            if is_set {
-                let part = parts.root[index];
-                let tags = tags_of_part(self.alloc, &mut self.files, part, parts.root_tag(index))?;
-                least.push(least_of(tags.as_slice()))?;
-            }
-        }
-        if is_set {
-            return ordered(self.alloc, parts.root.as_slice(), least.as_slice());
-        }
-        Ok(order)
     }
 
     /// Adds the additions of a SEQUENCE or SET, and their names. Those in the same version brackets are a group.
@@ -406,8 +464,7 @@ impl<'a, 'i> Building<'a, 'i> {
             group.tags.extend_from_slice(tags.as_slice())?;
             group.names.root.push(self.name_of(part)?)?;
             group.components.push(self.component(part, tags, false)?)?;
-            let next = parts.additions.get(index + 1);
-            if next.and_then(|next| next.group) != part.group {
+            if is_last_of_group(parts, index) {
                 let done = mem::replace(&mut group, Grouped::new(self.alloc));
                 names.additions.push(String::new(self.alloc))?;
                 let origin = Origin::Group(part.at.scope, part.name.place);
@@ -488,22 +545,35 @@ impl Grouped {
     }
 }
 
+/// The kind of a character string (X.680 41), if tables hold it.
+pub(crate) fn string_kind(name: StringName) -> Option<StringKind> {
+    match name {
+        StringName::Bmp => Some(StringKind::Bmp),
+        StringName::General => Some(StringKind::General),
+        StringName::Graphic => Some(StringKind::Graphic),
+        StringName::Ia5 => Some(StringKind::Ia5),
+        StringName::Numeric => Some(StringKind::Numeric),
+        StringName::Printable => Some(StringKind::Printable),
+        StringName::Teletex => Some(StringKind::Teletex),
+        StringName::Utf8 => Some(StringKind::Utf8),
+        StringName::Visible => Some(StringKind::Visible),
+        StringName::Universal | StringName::Videotex => None,
+    }
+}
+
+/// Whether a kind is a known-multiplier type, whose characters take the same number of bits each (X.691 3.7.16).
+pub(crate) fn has_known_multiplier(kind: StringKind) -> bool {
+    !matches!(
+        kind,
+        StringKind::General | StringKind::Graphic | StringKind::Teletex | StringKind::Utf8
+    )
+}
+
 /// The tag of a component of a SEQUENCE by its position. Neither PER nor OER encodes these tags, which may be equal
 /// (X.680 25.6) and in a table are not.
 fn position_tag(position: usize) -> Option<Tag> {
     let number = u32::try_from(position).ok()?;
     Some(Tag::new_context(number))
-}
-
-/// The least tag (X.680 8.6).
-fn least_of(tags: &[Tag]) -> Tag {
-    let mut least = Tag::new_private(u32::MAX);
-    for tag in tags {
-        if tag.const_less_than(least) {
-            least = *tag;
-        }
-    }
-    least
 }
 
 /// Adds the numbers and the names of items.

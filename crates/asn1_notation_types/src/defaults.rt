@@ -1,316 +1,237 @@
-//! Defaults (X.680 25.9).
-ghost use Rattle.std.specs.Prelude.{◌≡◌, false, IfSome};
-ghost use Rattle.asn1_schema_constraints.specs.declared.bounds.Bounded.TheVariants.{Single};
-
-use crate::parts::alternatives_of;
+//! Defaults in normal form (X.680 25.9, X.691 19.5 and 19.9): a component with its own default as its value is absent,
+//! and so is a group of additions without components.
+use crate::events::{event_of, has_size};
+use crate::given::{Given, given_parts};
+use crate::parts::{is_last_of_group, root_order};
+use crate::tables::Additions;
+use asn1_notation_components::{Part, Parts, alternatives_of, parts_of};
 use asn1_notation_resolving::{
-    Base, Files, NotationError, Problem, TypeUse, ValueUse, arcs_of, base_of, integer_of, item_of,
-    numbers_of, settled, sizes,
+    Base, Files, NotationError, Problem, TypeUse, ValueUse, base_of, settled,
 };
-use asn1_notation_tree::{
-    Components, Element, Enumeration, ListElement, NamedNumber, StringName, TypeKind, ValueKind,
-};
-use asn1_schema_constraints::{Bounded, Sizes};
-use asn1_table_types::{DefaultValue, Event};
-use asn1_values_bit_strings::BitString;
-use asn1_values_identifiers::ObjectIdentifier;
-use asn1_values_integers::Integer;
+use asn1_notation_tree::{Components, Element, Presence, TypeKind, ValueKind};
+use asn1_table_types::{DefaultValue, is_same_value};
 use std::alloc::Global;
-use std::borrow::CowSlice;
-use std::str;
+use std::mem;
 
-/// How many bits a default with named bits has at most.
-const MOST_BITS: usize = 65_536;
+/// In how many levels a default is read.
+const MOST_LEVELS: u32 = 128;
 
-/// Values of a type, and where they are written.
-#[derive(Clone, Copy)]
-struct Valued<'a, 'b, 'i> {
+/// How many values are read for the defaults of a table at most: a reference to a value counts as all of its values.
+const MOST_VALUES: usize = 65_536;
+
+/// Reads the defaults of a table.
+#[derive(Drop)]
+pub(crate) struct Defaults {
     alloc: Global,
-    files: &'b Files<'a, 'i>,
-    base: &'b Base<'a>,
-    value: ValueUse,
-    /// The size of a BIT STRING with named bits, if it is fixed.
-    size: Option<usize>,
+    additions: Additions,
+    /// How many values may still be read.
+    left: usize,
 }
 
-/// The default of a component of a type.
-pub(crate) fn default_of<'a>(
-    alloc: Global,
-    files: &mut Files<'a, '_>,
-    base: &Base<'a>,
-    value: ValueUse,
-) -> Result<DefaultValue, NotationError> {
-    match &base.term.kind {
-        TypeKind::SequenceOf(element) => {
-            let elements = elements_of(alloc, files, base, element, value)?;
-            Ok(DefaultValue::SequenceOf(elements))
+impl Defaults {
+    /// No defaults yet.
+    pub(crate) fn new(alloc: Global, additions: Additions) -> Self {
+        Defaults {
+            alloc,
+            additions,
+            left: MOST_VALUES,
         }
-        TypeKind::SetOf(element) => {
-            let mut elements = elements_of(alloc, files, base, element, value)?;
-            let last = elements.pop();
-            if !elements.is_empty() {
-                return Err(value.error(files, Problem::UnsupportedDefault));
-            }
-            match last {
-                None => Ok(DefaultValue::SetOf(None)),
-                Some(last) => Ok(DefaultValue::SetOf(Some(Box::new(alloc, last)?))),
-            }
-        }
-        TypeKind::Choice(components) => chosen_of(alloc, files, base, components, value),
-        _ => Ok(DefaultValue::Simple(event_of(alloc, files, base, value)?)),
     }
-}
 
-/// The chosen alternative of a CHOICE and its value (X.680 29.11), which has no parts.
-fn chosen_of<'a>(
-    alloc: Global,
-    files: &mut Files<'a, '_>,
-    base: &Base<'a>,
-    components: &'a Components,
-    value: ValueUse,
-) -> Result<DefaultValue, NotationError> {
-    let at = settled(files, value)?;
-    let ValueKind::Choice(name, index) = &files.value_term(at.scope, at.index)?.kind else {
-        return Err(value.error(files, Problem::ValueOfOtherType));
-    };
-    let alternatives = alternatives_of(alloc, files, base.at.scope, components)?;
-    let Some((chosen, part)) = alternatives.find(name.text.as_str()) else {
-        return Err(at.scope.error(name.place, Problem::UnknownValue));
-    };
-    let base = base_of(alloc, files, part.at)?;
-    let inner = ValueUse {
-        scope: at.scope,
-        index: *index,
-    };
-    let simple = DefaultValue::Simple(event_of(alloc, files, &base, inner)?);
-    Ok(DefaultValue::Choice(chosen, Box::new(alloc, simple)?))
-}
+    /// The default of a component of a type.
+    pub(crate) fn read<'a>(
+        &mut self,
+        files: &mut Files<'a, '_>,
+        base: &Base<'a>,
+        value: ValueUse,
+    ) -> Result<DefaultValue, NotationError> {
+        self.value_of(files, base, value, MOST_LEVELS)
+    }
 
-/// The elements of a list (X.680 26.3 and 28.3), each without parts.
-fn elements_of<'a>(
-    alloc: Global,
-    files: &mut Files<'a, '_>,
-    base: &Base<'a>,
-    element: &Element,
-    value: ValueUse,
-) -> Result<Vec<DefaultValue>, NotationError> {
-    let at = settled(files, value)?;
-    let ValueKind::List(elements) = &files.value_term(at.scope, at.index)?.kind else {
-        return Err(value.error(files, Problem::ValueOfOtherType));
-    };
-    let of = TypeUse {
-        scope: base.at.scope,
-        index: element.element,
-    };
-    let base = base_of(alloc, files, of)?;
-    let mut values = Vec::new(alloc);
-    for one in elements {
-        let one = ValueUse {
-            scope: at.scope,
-            index: one.value,
+    /// A value of a type, nested at most this deep.
+    #[cycle(values)]
+    fn value_of<'a>(
+        &mut self,
+        files: &mut Files<'a, '_>,
+        base: &Base<'a>,
+        value: ValueUse,
+        levels: u32,
+    ) -> Result<DefaultValue, NotationError> {
+        if levels == 0 {
+            return Err(value.error(files, Problem::TooDeep));
+        }
+        if self.left == 0 {
+            return Err(value.error(files, Problem::UnsupportedDefault));
+        }
+        self.left -= 1;
+        let below = levels - 1;
+        match &base.term.kind {
+            TypeKind::SequenceOf(element) => {
+                let elements = self.elements_of(files, base, element, value, below)?;
+                Ok(DefaultValue::SequenceOf(elements))
+            }
+            TypeKind::SetOf(element) => {
+                let elements = self.elements_of(files, base, element, value, below)?;
+                Ok(DefaultValue::SetOf(elements))
+            }
+            TypeKind::Choice(components) => {
+                self.chosen_of(files, base, components, value, below)
+            }
+            TypeKind::Sequence(components) => {
+                let parts = parts_of(self.alloc, files, base.at.scope, components, false)?;
+                self.components_of(files, &parts, false, value, below)
+            }
+            TypeKind::Set(components) => {
+                let parts = parts_of(self.alloc, files, base.at.scope, components, true)?;
+                self.components_of(files, &parts, true, value, below)
+            }
+            _ => Ok(DefaultValue::Simple(event_of(self.alloc, files, base, value)?)),
+        }
+    }
+
+    /// The elements of a list (X.680 26.3 and 28.3).
+    #[cycle(values)]
+    fn elements_of<'a>(
+        &mut self,
+        files: &mut Files<'a, '_>,
+        base: &Base<'a>,
+        element: &Element,
+        value: ValueUse,
+        levels: u32,
+    ) -> Result<Vec<DefaultValue>, NotationError> {
+        let at = settled(files, value)?;
+        let ValueKind::List(elements) = &files.value_term(at.scope, at.index)?.kind else {
+            return Err(value.error(files, Problem::ValueOfOtherType));
         };
-        let event = event_of(alloc, files, &base, one)?;
-        values.push(DefaultValue::Simple(event))?;
-    }
-    Ok(values)
-}
-
-/// The size, if it is fixed.
-pub(crate) fn fixed_size(sizes: &Sizes) -> Option<usize>
-    ensures root { IfSome result (λ size. sizes.now.root ≡ Single size) }
-    ensures closed { IfSome result (λ _. sizes.now.is_extensible ≡ false) }
-{
-    match sizes.root {
-        Bounded::Single(size) if !sizes.is_extensible => Some(size),
-        _ => None,
-    }
-}
-
-/// A value without parts, of a type.
-fn event_of<'a>(
-    alloc: Global,
-    files: &mut Files<'a, '_>,
-    base: &Base<'a>,
-    value: ValueUse,
-) -> Result<Event, NotationError> {
-    let size = match &base.term.kind {
-        TypeKind::BitString(names) if !names.is_empty() => {
-            fixed_size(&sizes(alloc, files, base)?)
-        }
-        _ => None,
-    };
-    let valued = Valued {
-        alloc,
-        files,
-        base,
-        value,
-        size,
-    };
-    match &base.term.kind {
-        TypeKind::Boolean => valued.truth(),
-        TypeKind::Null => Ok(Event::Nothing),
-        TypeKind::Integer(numbers) => valued.number(numbers.as_slice()),
-        TypeKind::Enumerated(items) => valued.item(items),
-        TypeKind::BitString(names) => valued.bits(names.as_slice()),
-        TypeKind::OctetString => valued.octets(),
-        TypeKind::CharacterString(name) => valued.text(*name),
-        TypeKind::ObjectIdentifier => valued.arcs(),
-        _ => Err(valued.error(Problem::UnsupportedDefault)),
-    }
-}
-
-impl Valued<'_, '_, '_> {
-    /// An error at the value.
-    fn error(self, problem: Problem) -> NotationError {
-        self.value.error(self.files, problem)
-    }
-
-    /// A value of BOOLEAN (X.680 18.3).
-    fn truth(self) -> Result<Event, NotationError> {
-        let at = settled(self.files, self.value)?;
-        match self.files.value_term(at.scope, at.index)?.kind {
-            ValueKind::Boolean(value) => Ok(Event::Truth(value)),
-            _ => Err(self.error(Problem::ValueOfOtherType)),
-        }
-    }
-
-    /// A value of INTEGER (X.680 19.9).
-    fn number(self, numbers: &[NamedNumber]) -> Result<Event, NotationError> {
-        let number = integer_of(self.files, self.base.at.scope, numbers, self.value)?;
-        Ok(Event::Number(Integer::from_i128(number)))
-    }
-
-    /// A value of ENUMERATED (X.680 20.8).
-    fn item(self, items: &Enumeration) -> Result<Event, NotationError> {
-        let scope = self.base.at.scope;
-        let numbers = numbers_of(self.alloc, self.files, scope, items)?;
-        Ok(Event::Item(item_of(self.files, &numbers, self.value)?))
-    }
-
-    /// A value of BIT STRING (X.680 22.9): a bstring, an hstring, or named bits.
-    fn bits(self, names: &[NamedNumber]) -> Result<Event, NotationError> {
-        let at = settled(self.files, self.value)?;
-        let mut all = Vec::new(self.alloc);
-        match &self.files.value_term(at.scope, at.index)?.kind {
-            ValueKind::Binary(digits) => {
-                for digit in digits {
-                    all.push(*digit == 1)?;
-                }
-            }
-            ValueKind::Hexadecimal(digits) => {
-                for digit in digits {
-                    for weight in [8, 4, 2, 1] {
-                        all.push(digit & weight != 0)?;
-                    }
-                }
-            }
-            ValueKind::List(elements) => {
-                self.set_named(at, elements.as_slice(), names, &mut all)?;
-            }
-            _ => return Err(self.error(Problem::ValueOfOtherType)),
-        }
-        if !names.is_empty() {
-            self.fit(&mut all)?;
-        }
-        let mut bits = BitString::new(self.alloc);
-        for bit in &all {
-            bits.push(*bit)?;
-        }
-        Ok(Event::Bits(bits))
-    }
-
-    /// Sets named bits (X.680 22.10).
-    fn set_named(
-        self,
-        at: ValueUse,
-        elements: &[ListElement],
-        names: &[NamedNumber],
-        bits: &mut Vec<bool>,
-    ) -> Result<(), NotationError> {
-        if elements.is_empty() {
-            return Ok(());
-        }
-        self.fit(bits)?;
-        for element in elements {
-            let bit = ValueUse {
+        let of = TypeUse {
+            scope: base.at.scope,
+            index: element.element,
+        };
+        let element = base_of(self.alloc, files, of)?;
+        let mut values = Vec::new(self.alloc);
+        for one in elements {
+            let one = ValueUse {
                 scope: at.scope,
-                index: element.value,
+                index: one.value,
             };
-            let number = integer_of(self.files, self.base.at.scope, names, bit)?;
-            let place = usize::try_from(number).ok();
-            match place.and_then(|place| bits.get_mut(place)) {
-                Some(bit) => *bit = true,
-                None => return Err(bit.error(self.files, Problem::ValueOfOtherType)),
+            values.push(self.value_of(files, &element, one, levels)?)?;
+        }
+        if has_size(self.alloc, files, base, values.len())? {
+            return Ok(values);
+        }
+        Err(value.error(files, Problem::DefaultOutside))
+    }
+
+    /// The chosen alternative of a CHOICE and its value (X.680 29.11).
+    #[cycle(values)]
+    fn chosen_of<'a>(
+        &mut self,
+        files: &mut Files<'a, '_>,
+        base: &Base<'a>,
+        components: &'a Components,
+        value: ValueUse,
+        levels: u32,
+    ) -> Result<DefaultValue, NotationError> {
+        let at = settled(files, value)?;
+        let ValueKind::Choice(name, index) = &files.value_term(at.scope, at.index)?.kind else {
+            return Err(value.error(files, Problem::ValueOfOtherType));
+        };
+        let alternatives = alternatives_of(self.alloc, files, base.at.scope, components)?;
+        let Some((chosen, part)) = alternatives.find(name.text.as_str()) else {
+            return Err(at.scope.error(name.place, Problem::UnknownValue));
+        };
+        let base = base_of(self.alloc, files, part.at)?;
+        let inner = ValueUse {
+            scope: at.scope,
+            index: *index,
+        };
+        let inner = self.value_of(files, &base, inner, levels)?;
+        Ok(DefaultValue::Choice(chosen, Box::new(self.alloc, inner)?))
+    }
+
+    /// The components of a SEQUENCE or SET (X.680 25.18 and 27).
+    #[cycle(values)]
+    fn components_of<'a>(
+        &mut self,
+        files: &mut Files<'a, '_>,
+        parts: &Parts<'a>,
+        is_set: bool,
+        value: ValueUse,
+        levels: u32,
+    ) -> Result<DefaultValue, NotationError> {
+        let given = given_parts(self.alloc, files, parts, is_set, value)?;
+        if given.lacks_required(parts, self.additions) {
+            return Err(value.error(files, Problem::ValueOfOtherType));
+        }
+        let mut root = Vec::new(self.alloc);
+        for index in root_order(self.alloc, files, parts, is_set)? {
+            if let Some(part) = parts.root.get(index).copied() {
+                root.push(self.part_of(files, part, given.root(index), levels)?)?;
             }
         }
-        Ok(())
+        let additions = self.additions_of(files, parts, &given, levels)?;
+        Ok(DefaultValue::Components(root, additions))
     }
 
-    /// Adds zeros to bits, or removes them from their end, up to the fixed size of the type (X.680 22.7).
-    fn fit(self, bits: &mut Vec<bool>) -> Result<(), NotationError> {
-        let Some(size) = self.size else {
-            return Err(self.base.error(Problem::NamedBits));
-        };
-        if size > MOST_BITS {
-            return Err(self.error(Problem::UnsupportedDefault));
-        }
-        let is_longer = bits.iter().skip(size).any(|bit| *bit);
-        if !is_longer {
-            bits.resize(size, false)?;
-        }
-        Ok(())
-    }
-
-    /// A value of OBJECT IDENTIFIER (X.680 32.3).
-    fn arcs(self) -> Result<Event, NotationError> {
-        let arcs = arcs_of(self.alloc, self.files, self.value)?;
-        match ObjectIdentifier::new(CowSlice::Owned(arcs)) {
-            Some(identifier) => Ok(Event::Arcs(identifier)),
-            None => Err(self.error(Problem::ValueOfOtherType)),
-        }
-    }
-
-    /// A value of a character string (X.680 41.8): its characters by their numbers, or its octets in UTF-8.
-    fn text(self, name: StringName) -> Result<Event, NotationError> {
-        let at = settled(self.files, self.value)?;
-        let ValueKind::Text(text) = &self.files.value_term(at.scope, at.index)?.kind else {
-            return Err(self.error(Problem::ValueOfOtherType));
-        };
-        let mut characters = Vec::new(self.alloc);
-        if matches!(name, StringName::Utf8) {
-            characters.extend_from_slice(text.as_slice())?;
-            return Ok(Event::Text(characters));
-        }
-        let Ok(text) = str::from_utf8(text.as_slice()) else {
-            return Err(self.error(Problem::ValueOfOtherType));
-        };
-        for character in text.chars() {
-            match u8::try_from(u32::from(character)) {
-                Ok(number) => characters.push(number)?,
-                Err(_) => return Err(self.error(Problem::UnsupportedDefault)),
+    /// The additions of a SEQUENCE or SET. Those in the same version brackets are a group.
+    #[cycle(values)]
+    fn additions_of<'a>(
+        &mut self,
+        files: &mut Files<'a, '_>,
+        parts: &Parts<'a>,
+        given: &Given,
+        levels: u32,
+    ) -> Result<Vec<Option<DefaultValue>>, NotationError> {
+        let mut additions = Vec::new(self.alloc);
+        let mut group = Vec::new(self.alloc);
+        for index in 0..parts.additions.len() {
+            let part = parts.additions[index];
+            let value = self.part_of(files, part, given.addition(index), levels)?;
+            if part.group.is_none() {
+                additions.push(value)?;
+                continue;
+            }
+            group.push(value)?;
+            if is_last_of_group(parts, index) {
+                let done = mem::replace(&mut group, Vec::new(self.alloc));
+                additions.push(self.group_of(done))?;
             }
         }
-        Ok(Event::Text(characters))
+        Ok(additions)
     }
 
-    /// A value of OCTET STRING (X.680 23.3): a bstring or an hstring, with zeros at its end to whole octets.
-    fn octets(self) -> Result<Event, NotationError> {
-        let at = settled(self.files, self.value)?;
-        let mut octets = Vec::new(self.alloc);
-        let (digits, size) = match &self.files.value_term(at.scope, at.index)?.kind {
-            ValueKind::Binary(digits) => (digits.as_slice(), 1_u8),
-            ValueKind::Hexadecimal(digits) => (digits.as_slice(), 4),
-            _ => return Err(self.error(Problem::ValueOfOtherType)),
-        };
-        let count = if size == 1 { 8 } else { 2 };
-        for part in digits.chunks(count) {
-            let mut octet = 0_u8;
-            for index in 0..count {
-                let digit = part.get(index).copied().unwrap_or(0);
-                octet = (octet << size) | digit;
-            }
-            octets.push(octet)?;
+    /// A group of additions, if one of its components is there.
+    fn group_of(&self, components: Vec<Option<DefaultValue>>) -> Option<DefaultValue> {
+        if components.iter().any(|component| component.is_some()) {
+            return Some(DefaultValue::Components(components, Vec::new(self.alloc)));
         }
-        Ok(Event::Octets(octets))
+        None
+    }
+
+    /// The value of a component, if one is given that is not the component's own default.
+    #[cycle(values)]
+    fn part_of<'a>(
+        &mut self,
+        files: &mut Files<'a, '_>,
+        part: Part<'a>,
+        given: Option<ValueUse>,
+        levels: u32,
+    ) -> Result<Option<DefaultValue>, NotationError> {
+        let Some(given) = given else {
+            return Ok(None);
+        };
+        let base = base_of(self.alloc, files, part.at)?;
+        let value = self.value_of(files, &base, given, levels)?;
+        if let Presence::Default(index) = part.presence {
+            let own = ValueUse {
+                scope: part.at.scope,
+                index,
+            };
+            let own = self.value_of(files, &base, own, levels)?;
+            if is_same_value(&value, &own) {
+                return Ok(None);
+            }
+        }
+        Ok(Some(value))
     }
 }

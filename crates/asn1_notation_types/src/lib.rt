@@ -3,8 +3,11 @@
 
 mod building;
 mod defaults;
+mod endless;
+mod events;
+mod given;
 mod parts;
 mod tables;
 
 pub use asn1_notation_resolving::{Explained, Near, NotationError, Problem};
-pub use tables::{Additions, Table, table_of};
+pub use tables::{Additions, OpenTypes, Table, TableOptions, table_of};

@@ -2,6 +2,7 @@
 ghost use Rattle.std.specs.Prelude.{◌<◌, ◌≤◌, IfErr, IfSome, length, slice_get};
 
 use crate::building::{Building, Origin};
+use crate::endless::endless_type;
 use asn1_notation_resolving::{Files, Index, NotationError, Problem, type_of_symbol};
 use asn1_notation_tree::Syntax;
 use asn1_table_names::Names;
@@ -17,12 +18,41 @@ pub enum Additions {
     AreRequired,
 }
 
+/// What becomes of an open type (X.681 14.2).
+#[derive(Clone, Copy, Debug, PartialEq, Eq)]
+pub enum OpenTypes {
+    /// It has no values: only messages in which it is absent are translated.
+    AreRefused,
+    /// Its value is the octets of the encoding in it, which no translation changes: an OCTET STRING, which has the same
+    /// encoding in all rules (X.691 11.2, X.696 30).
+    AreOctets,
+}
+
+/// How modules are understood.
+#[derive(Clone, Copy, Debug, PartialEq, Eq)]
+pub struct TableOptions {
+    /// Whether additions may be absent.
+    pub additions: Additions,
+    /// What becomes of open types.
+    pub open_types: OpenTypes,
+}
+
+impl From<Additions> for TableOptions {
+    /// Open types are refused.
+    fn from(additions: Additions) -> Self {
+        TableOptions {
+            additions,
+            open_types: OpenTypes::AreRefused,
+        }
+    }
+}
+
 /// A type and all types that it leads to.
 #[derive(Drop)]
 pub struct Table {
     /// The types, each of them lawful.
     pub types: Types,
-    /// Their names.
+    /// Their names. That of the type is that of its assignment, also if this is a reference to another type.
     pub names: Names,
     /// The index of the type.
     pub place: usize,
@@ -39,13 +69,13 @@ pub fn table_of(
     files: &[Syntax],
     module: Option<&str>,
     name: &str,
-    additions: Additions,
+    options: TableOptions,
 ) -> Result<Table, NotationError>
     ensures file { IfErr result (λ e. 0 < length files.now → e.file < length files.now) }
     ensures place { IfErr result (λ e. IfSome (slice_get files.now e.file)
         (λ f. e.place ≤ length f.items.list.items)) }
 {
-    match built(alloc, files, module, name, additions) {
+    match built(alloc, files, module, name, options) {
         Ok(table) => Ok(table),
         Err(error) => Err(located(files, error)),
     }
@@ -76,20 +106,17 @@ fn built(
     files: &[Syntax],
     module: Option<&str>,
     name: &str,
-    additions: Additions,
+    options: TableOptions,
 ) -> Result<Table, NotationError> {
     let index = Index::new(alloc, files)?;
+    index.check_names(files)?;
     let files = Files::new(alloc, files, &index);
     let symbol = files.find_type(module, name)?;
-    let at = type_of_symbol(&files, symbol).map_err(|problem| symbol.scope.error(0, problem))?;
-    let mut building = Building::new(alloc, files, additions);
+    let at = type_of_symbol(&files, symbol)?;
+    let mut building = Building::new(alloc, files, options);
     let place = building.place_of(at)?;
-    for next in 0..usize::MAX {
-        if next >= building.nodes.len() {
-            break;
-        }
-        building.build(next)?;
-    }
+    building.build_all()?;
+    building.set_name(place, symbol)?;
     let Building {
         mut files,
         nodes,
@@ -97,13 +124,32 @@ fn built(
         origins,
         ..
     } = building;
-    match Types::new(alloc, nodes) {
-        Ok(types) => Ok(Table {
-            types,
-            names: Names { types: names },
-            place,
-        }),
-        Err(error) => Err(refused(alloc, &mut files, origins.as_slice(), error)),
+    let types = match Types::new(alloc, nodes) {
+        Ok(types) => types,
+        Err(error) => return Err(refused(alloc, &mut files, origins.as_slice(), error)),
+    };
+    if let Some(endless) = endless_type(alloc, types.nodes())? {
+        let origins = origins.as_slice();
+        return Err(problem_at(alloc, &mut files, origins, endless, Problem::Endless));
+    }
+    Ok(Table {
+        types,
+        names: Names { types: names },
+        place,
+    })
+}
+
+/// A problem of the type at an index.
+fn problem_at(
+    alloc: Global,
+    files: &mut Files<'_, '_>,
+    origins: &[Origin],
+    place: usize,
+    problem: Problem,
+) -> NotationError {
+    match origins.get(place) {
+        Some(origin) => origin.error(alloc, files, problem),
+        None => NotationError::new(problem),
     }
 }
 
@@ -117,11 +163,10 @@ fn refused(
     match error {
         TableError::OutOfMemory => NotationError::new(Problem::OutOfMemory),
         TableError::Unlawful { place, flaw } => {
-            let problem = Problem::Unlawful(flaw);
-            match origins.get(place) {
-                Some(origin) => origin.error(alloc, files, problem),
-                None => NotationError::new(problem),
-            }
+            problem_at(alloc, files, origins, place, Problem::Unlawful(flaw))
+        }
+        TableError::DefaultNotNormal { place } => {
+            problem_at(alloc, files, origins, place, Problem::UnsupportedDefault)
         }
     }
 }

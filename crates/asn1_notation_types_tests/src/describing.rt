@@ -151,24 +151,51 @@ fn describe_default(text: &mut String, value: &DefaultValue) -> Result<(), Alloc
 }
 
 /// The value of a default.
+#[cycle(values)]
 fn describe_value(text: &mut String, value: &DefaultValue) -> Result<(), AllocError> {
     match value {
         DefaultValue::Simple(event) => describe_event(text, event),
-        DefaultValue::SequenceOf(elements) => {
-            write!(text, " list")?;
-            for element in elements {
-                describe_value(text, element)?;
-            }
-            Ok(())
-        }
-        DefaultValue::SetOf(None) => write!(text, " empty"),
-        DefaultValue::SetOf(Some(element)) => describe_value(text, element),
+        DefaultValue::SequenceOf(elements) => describe_values(text, "list", elements.as_slice()),
+        DefaultValue::SetOf(elements) => describe_values(text, "bag", elements.as_slice()),
         DefaultValue::Choice(chosen, inner) => {
             let list = if chosen.added { "added" } else { "root" };
             write!(text, " {list} {}", chosen.place)?;
             describe_value(text, inner)
         }
+        DefaultValue::Components(root, additions) => {
+            write!(text, " {{")?;
+            describe_parts(text, root.as_slice())?;
+            write!(text, " |")?;
+            describe_parts(text, additions.as_slice())?;
+            write!(text, " }}")
+        }
     }
+}
+
+/// The elements of a list after a word, in parentheses.
+#[cycle(values)]
+fn describe_values(
+    text: &mut String,
+    word: &str,
+    values: &[DefaultValue],
+) -> Result<(), AllocError> {
+    write!(text, " {word} (")?;
+    for value in values {
+        describe_value(text, value)?;
+    }
+    write!(text, " )")
+}
+
+/// Components of a value, a dash for each that is absent.
+#[cycle(values)]
+fn describe_parts(text: &mut String, parts: &[Option<DefaultValue>]) -> Result<(), AllocError> {
+    for part in parts {
+        match part {
+            Some(value) => describe_value(text, value)?,
+            None => write!(text, " -")?,
+        }
+    }
+    Ok(())
 }
 
 /// A value without parts.

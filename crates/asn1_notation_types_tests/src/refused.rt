@@ -1,14 +1,13 @@
 //! Modules without a table for their type T: what is wrong, and where.
 use asn1_notation_syntax::{Syntax, read_syntax};
 use asn1_notation_types::{Additions, Problem, table_of};
-use asn1_table_types::Flaw;
 use std::alloc::Global;
 
 /// What is before the assignments.
 const BEGIN: &str = "M DEFINITIONS ::= BEGIN ";
 
 /// Assignments, what is wrong, and the octet from there on.
-const ROWS: [(&str, Problem, usize); 29] = [
+const ROWS: [(&str, Problem, usize); 42] = [
     ("T ::= A", Problem::UnknownType, 6),
     ("T ::= INTEGER (0..v)", Problem::UnknownValue, 18),
     ("T ::= A A ::= T", Problem::Circular, 6),
@@ -36,9 +35,9 @@ const ROWS: [(&str, Problem, usize); 29] = [
         49,
     ),
     (
-        "T ::= A {NULL} A {V} ::= SEQUENCE {a A {SEQUENCE OF V}, b A {SET OF V}}",
+        "T ::= A {NULL} A {V} ::= SEQUENCE {a A {A {A {A {A {A {NULL}}}}}}, b A {A {A {A {A {A {NULL}}}}}}}",
         Problem::TooManyInstances,
-        58,
+        43,
     ),
     ("T ::= BIT STRING {a(0)}", Problem::NamedBits, 6),
     (
@@ -57,38 +56,99 @@ const ROWS: [(&str, Problem, usize); 29] = [
         34,
     ),
     (
-        "T ::= SEQUENCE {a SEQUENCE {b NULL} DEFAULT {b NULL}}",
+        "T ::= SEQUENCE {a SEQUENCE {b REAL} DEFAULT {b 1.5}}",
         Problem::UnsupportedDefault,
-        44,
+        47,
     ),
+    (
+        "T ::= SEQUENCE {a SEQUENCE {b NULL, c NULL} DEFAULT {b NULL}}",
+        Problem::ValueOfOtherType,
+        52,
+    ),
+    (
+        "T ::= SEQUENCE {a SET {b NULL} DEFAULT {}}",
+        Problem::ValueOfOtherType,
+        39,
+    ),
+    (
+        "T ::= SEQUENCE {a SEQUENCE {..., b NULL} DEFAULT {}}",
+        Problem::ValueOfOtherType,
+        49,
+    ),
+    (
+        "T ::= SEQUENCE {a SEQUENCE {..., [[b NULL, c NULL DEFAULT NULL]]} DEFAULT {c NULL}}",
+        Problem::ValueOfOtherType,
+        74,
+    ),
+    (
+        "T ::= SEQUENCE {a SEQUENCE {b NULL} DEFAULT {NULL}}",
+        Problem::ValueOfOtherType,
+        45,
+    ),
+    (
+        "T ::= SEQUENCE {a SEQUENCE {b NULL, c NULL} DEFAULT {c NULL, b NULL}}",
+        Problem::ValueOfOtherType,
+        61,
+    ),
+    (
+        "T ::= SEQUENCE {a SEQUENCE {b NULL, ..., c NULL, ..., d NULL} DEFAULT {b NULL, d NULL, c NULL}}",
+        Problem::ValueOfOtherType,
+        87,
+    ),
+    (
+        "T ::= SEQUENCE {a SEQUENCE {b NULL OPTIONAL} DEFAULT {c NULL}}",
+        Problem::UnknownValue,
+        54,
+    ),
+    (
+        "T ::= SEQUENCE {a SET {b NULL} DEFAULT {b NULL, b NULL}}",
+        Problem::NameTwice,
+        48,
+    ),
+    (
+        "T ::= SEQUENCE {a SET OF SEQUENCE {b INTEGER (0..7)} DEFAULT {{b 7}, {b 8}}}",
+        Problem::DefaultOutside,
+        72,
+    ),
+    (
+        "T ::= SEQUENCE {a SET (SIZE (1)) OF NULL DEFAULT {NULL, NULL}}",
+        Problem::DefaultOutside,
+        49,
+    ),
+    (
+        "T ::= SEQUENCE {a A DEFAULT v} A ::= SEQUENCE {x A OPTIONAL} v A ::= {x v}",
+        Problem::TooDeep,
+        72,
+    ),
+    ("T ::= SEQUENCE {x T DEFAULT {x {}}}", Problem::TooDeep, 31),
     (
         "T ::= SET {a [4294967296] NULL}",
         Problem::TagOutOfRange,
         14,
     ),
-    ("T ::= INTEGER (1..3 ^ 5..7)", Problem::EmptyConstraint, 6),
+    ("T ::= INTEGER (1..3 ^ 5..7)", Problem::EmptyConstraint, 15),
     (
         "T ::= OCTET STRING (SIZE (18446744073709551616))",
         Problem::SizeOutOfRange,
-        6,
+        26,
     ),
-    ("T ::= ENUMERATED {a(1), b(1)}", Problem::ItemNumber, 24),
+    ("T ::= ENUMERATED {a(1), b(1)}", Problem::NumberTwice, 24),
     ("T ::= SET {a NULL, b NULL}", Problem::TagTwice, 19),
     ("T ::= UniversalString", Problem::UnsupportedType, 6),
     (
         "T ::= SEQUENCE OF A A ::= CHOICE {a [0] NULL, ..., b [0] NULL}",
-        Problem::Unlawful(Flaw::TagTwice),
-        26,
+        Problem::TagTwice,
+        51,
     ),
     (
         "T ::= SEQUENCE {a NULL, b INTEGER (0..7) DEFAULT 8}",
-        Problem::Unlawful(Flaw::DefaultOfOtherType),
-        6,
+        Problem::DefaultOutside,
+        49,
     ),
     (
         "T ::= SEQUENCE {..., [[a NULL, b INTEGER (0..7) DEFAULT 8]]}",
-        Problem::Unlawful(Flaw::DefaultOfOtherType),
-        31,
+        Problem::DefaultOutside,
+        56,
     ),
     (
         "T ::= SEQUENCE {a CHOICE {b NULL} DEFAULT c : NULL}",
@@ -121,7 +181,7 @@ fn syntax_of(alloc: Global, assignments: &str) -> Option<Syntax> {
 /// Whether the table of T is refused so.
 fn is_refused(alloc: Global, files: &[Syntax], problem: Problem, offset: usize) -> bool {
     match (
-        table_of(alloc, files, Some("M"), "T", Additions::AreRequired),
+        table_of(alloc, files, Some("M"), "T", Additions::AreRequired.into()),
         files.first(),
     ) {
         (Err(error), Some(syntax)) => {

@@ -66,7 +66,13 @@ fn is_said(alloc: Global, module: &str, wanted: &str, offset: usize) -> bool {
         return false;
     };
     let files = [syntax];
-    let Err(error) = table_of(alloc, &files, None, "Message", Additions::AreRequired) else {
+    let Err(error) = table_of(
+        alloc,
+        &files,
+        None,
+        "Message",
+        Additions::AreRequired.into(),
+    ) else {
         return false;
     };
     let explained = error.explained(&files);

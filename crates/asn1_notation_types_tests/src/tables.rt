@@ -5,7 +5,7 @@ use asn1_notation_types::{Additions, table_of};
 use std::alloc::Global;
 
 /// The assignments of modules with explicit tags, and the types of their tables.
-const EXPLICIT: [(&str, &str); 24] = [
+const EXPLICIT: [(&str, &str); 25] = [
     ("T ::= BOOLEAN", "0 BOOLEAN; "),
     ("T ::= A A ::= [5] B B ::= NULL", "0 NULL; "),
     ("T ::= INTEGER", "0 INTEGER; "),
@@ -48,9 +48,10 @@ const EXPLICIT: [(&str, &str); 24] = [
         "T ::= NumericString (FROM (\"0\"..\"9\"), ...)",
         "0 NumericString FROM 48 49 50 51 52 53 54 55 56 57 ...; ",
     ),
+    ("T ::= UTF8String (SIZE (1..MAX))", "0 UTF8String; "),
     (
-        "T ::= UTF8String (SIZE (1..MAX))",
-        "0 UTF8String SIZE (1..MAX); ",
+        "T ::= BMPString (SIZE (1..MAX))",
+        "0 BMPString SIZE (1..MAX); ",
     ),
     (
         "T ::= ENUMERATED {a, b, ..., c}",
@@ -119,7 +120,8 @@ const AUTOMATIC: [(&str, &str); 9] = [
     ),
     (
         "T ::= SEQUENCE {a SEQUENCE OF INTEGER DEFAULT {}, b SET OF NULL DEFAULT {NULL}}",
-        "0 SEQUENCE [0] 1 DEFAULT list, [1] 2 DEFAULT NULL,; 1 SEQUENCE OF 3; 2 SET OF 4; 3 INTEGER; 4 NULL; ",
+        "0 SEQUENCE [0] 1 DEFAULT list ( ), [1] 2 DEFAULT bag ( NULL ),; 1 SEQUENCE OF 3; 2 SET OF 4; \
+         3 INTEGER; 4 NULL; ",
     ),
     (
         "T ::= SEQUENCE {a IA5String DEFAULT \"hi\", b UTF8String DEFAULT \"\u{e9}\"}",
@@ -135,7 +137,7 @@ fn syntax_of(alloc: Global, tags: &str, assignments: &str) -> Option<Syntax> {
 
 /// Whether the table of T has these types.
 fn is_table(alloc: Global, files: &[Syntax], wanted: &str) -> bool {
-    let Ok(table) = table_of(alloc, files, None, "T", Additions::MayBeAbsent) else {
+    let Ok(table) = table_of(alloc, files, None, "T", Additions::MayBeAbsent.into()) else {
         return false;
     };
     let is_described = match described(alloc, table.types.nodes()) {

@@ -368,7 +368,7 @@ fn strings(rt: HostRuntime) {
     assert!(rt; are_refused(alloc, &table, &VALUES));
 }
 
-/// The text of leaf TRUE under so many alternatives.
+/// The text of leaf TRUE under `count` alternatives.
 fn nested(alloc: Global, count: usize) -> Result<String, AllocError> {
     let mut text = String::new(alloc);
     for _ in 0..count {

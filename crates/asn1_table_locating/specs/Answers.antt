@@ -8,7 +8,7 @@ use Rattle.asn1_table_locating.specs.declared.locating.Located.{Located}
 use Rattle.asn1_table_locating.specs.declared.locating.Located.TheVariants as located
 use Rattle.asn1_table_locating.specs.declared.locating.Refused.{Refused}
 
--- A message of a value of the type is in front of the octets from this index on.
+-- The octets before this index are a message of a value of the type.
 pub record EndsAt (r : Rules) (s : Schema) (input : List ℕ) (end : ℕ) : Type 0 where
   pub records : List Record
   pub rest : List ℕ

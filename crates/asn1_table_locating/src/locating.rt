@@ -56,8 +56,11 @@ impl fmt::Display for Refused {
             let path = self.path.as_str();
             write!(f, ", in {path}")?;
         }
-        let error = self.error;
-        write!(f, ": {error}")
+        match self.error {
+            // A table says by it only that a type is outside, as REAL and times are.
+            DecodeError::TypeNotExtensible => write!(f, ": the type is not supported"),
+            error => write!(f, ": {error}"),
+        }
     }
 }
 

@@ -113,7 +113,7 @@ fn octets_from(input: &[u8], from: usize) -> &[u8] {
     }
 }
 
-/// The place at which so many octets are left, where more were left at an earlier one.
+/// The place at which `after` octets are left, if `before` were left at `from`.
 fn octets_later(from: usize, before: usize, after: usize) -> usize {
     from.saturating_add(before.saturating_sub(after).saturating_mul(8))
 }

@@ -26,7 +26,7 @@ const MODULE: &str = "M DEFINITIONS AUTOMATIC TAGS ::= BEGIN
 /// The table of a type of the module.
 fn table(alloc: Global, name: &str) -> Option<Table> {
     let files = [read_syntax(alloc, MODULE.as_bytes()).ok()?];
-    table_of(alloc, &files, None, name, Additions::AreRequired).ok()
+    table_of(alloc, &files, None, name, Additions::AreRequired.into()).ok()
 }
 
 /// Rules of a reader.

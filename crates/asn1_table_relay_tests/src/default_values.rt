@@ -50,7 +50,7 @@ fn components(alloc: Global) -> Result<Vec<Component>, AllocError> {
     all.push(part(alloc, 1, arcs(alloc)?, 2)?)?;
     all.push(by_default(alloc, 2, DefaultValue::SequenceOf(Vec::new(alloc)), 3)?)?;
     all.push(part(alloc, 3, both(alloc)?, 3)?)?;
-    let element = Some(Box::new(alloc, truth(true))?);
+    let element = Vec::from_array(alloc, [truth(true)])?;
     all.push(by_default(alloc, 4, DefaultValue::SetOf(element), 4)?)?;
     let chosen = DefaultValue::Choice(Chosen::root(0), Box::new(alloc, truth(true))?);
     all.push(by_default(alloc, 5, chosen, 5)?)?;

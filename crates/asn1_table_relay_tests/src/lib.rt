@@ -6,6 +6,8 @@ mod choices;
 #[cfg(test)]
 mod common;
 #[cfg(test)]
+mod constructed_defaults;
+#[cfg(test)]
 mod default_values;
 #[cfg(test)]
 mod defaults;

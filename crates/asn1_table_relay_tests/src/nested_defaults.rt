@@ -31,8 +31,8 @@ fn chosen(alloc: Global) -> Result<DefaultValue, AllocError> {
 
 /// {{TRUE}}.
 fn bag(alloc: Global) -> Result<DefaultValue, AllocError> {
-    let element = Box::new(alloc, list(alloc, &[true])?)?;
-    Ok(DefaultValue::SetOf(Some(element)))
+    let elements = Vec::from_array(alloc, [list(alloc, &[true])?])?;
+    Ok(DefaultValue::SetOf(elements))
 }
 
 /// The components of the SEQUENCE.

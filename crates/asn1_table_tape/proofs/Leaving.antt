@@ -27,8 +27,8 @@ all_off ns (e ∷ es) = rw (off_of ns e) (ap (λ b. is_absence e && b) (all_off 
 -- a component that is there begins with another record
 present_first : (s : Schema) (v : Value) (rest : List Record) → Fits s v → list_all is_off (presents s v ++ rest) ≡ false
 present_first s v rest f = elim (shape s v f) [
-  | single r q p o ↦ ap (λ rs. list_all is_off (rs ++ rest)) q ∙ ap (λ b. b && list_all is_off rest) o
-  | begun r qs q p o n ↦ ap (λ rs. list_all is_off (rs ++ rest)) q ∙ ap (λ b. b && list_all is_off (qs ++ rest)) o
+  | single r q p o b ↦ ap (λ rs. list_all is_off (rs ++ rest)) q ∙ ap (λ b. b && list_all is_off rest) o
+  | begun r qs q p o b n ↦ ap (λ rs. list_all is_off (rs ++ rest)) q ∙ ap (λ b. b && list_all is_off (qs ++ rest)) o
 ]
 
 off_parts : (cs : Components) (ps : Parts) → PartsFit cs ps → list_all is_off (root_records cs ps (ends ∷ [])) ≡ are_absent ps

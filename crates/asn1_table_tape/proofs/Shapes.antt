@@ -5,7 +5,7 @@ use Rattle.asn1_model.specs.Schema.{Schema, cut, boolean, null, integer, enumera
 use Rattle.asn1_model.specs.Schema.{sequence_of, set_of, sequence, set, group, choice, Components}
 use Rattle.asn1_model.specs.Lawful.{member_count, alternative_tags}
 use Rattle.asn1_schema_laws.specs.Records.{Record, flag, nil, whole, one_of, bits, octets, characters, identifier, list_begins, bag_begins, sequence_begins, set_begins, group_begins}
-use Rattle.asn1_schema_laws.specs.Records.{choice_begins, further, presence_bit, ends}
+use Rattle.asn1_schema_laws.specs.Records.{choice_begins, further, presence_bit, additions_begin, addition, addition_ends, ends}
 use Rattle.asn1_schema_laws.specs.Presents.{presents, member_records, root_records, added_records, behind_root, optional_count, Fits}
 use Rattle.asn1_schema_tags.specs.Chosen.{ChoiceTags}
 use Rattle.asn1_schema_tags.specs.declared.chosen.Chosen.{Chosen}
@@ -33,16 +33,26 @@ payload (characters k z a h cs) = Some (text cs)
 payload (identifier ns) = Some (arcs ns)
 payload r = None
 
+unfoldable pub is_bit : Record → Bool
+is_bit (presence_bit b) = true
+is_bit r = false
+
 unfoldable pub is_off : Record → Bool
 is_off (presence_bit b) = not b
 is_off ends = true
 is_off r = false
 
--- what else it says: a list begins; whether another element follows; a CHOICE begins, with an alternative; the end
+-- what else it says: a list begins; whether another element follows; a CHOICE begins, with an alternative; components
+-- begin; whether a root component is there; additions begin; whether an addition is there, and its end; the end
 pub data Mark : Type 0 where
   opens : Mark
   more : Bool → Mark
   picks : Bool → ℕ → Mark
+  parts : Mark
+  there : Bool → Mark
+  additions : Mark
+  added : Bool → Mark
+  added_ends : Mark
   closes : Mark
   other : Mark
 
@@ -51,6 +61,13 @@ mark (list_begins z h n) = opens
 mark (bag_begins z h n) = opens
 mark (further b) = more b
 mark (choice_begins rs e adds b i) = picks b i
+mark (sequence_begins e n) = parts
+mark (set_begins e n) = parts
+mark (group_begins n) = parts
+mark (presence_bit b) = there b
+mark (additions_begin n) = additions
+mark (addition b) = added b
+mark addition_ends = added_ends
 mark ends = closes
 mark r = other
 
@@ -58,6 +75,13 @@ unfoldable pub mark_in : Event → Mark
 mark_in (event.ListBegins i n) = opens
 mark_in (event.Further b) = more b
 mark_in (event.ChoiceBegins i c) = picks c.added c.place
+mark_in (event.SequenceBegins e n) = parts
+mark_in (event.SetBegins e n) = parts
+mark_in (event.GroupBegins n) = parts
+mark_in (event.PresenceBit b) = there b
+mark_in (event.AdditionsBegin n) = additions
+mark_in (event.Addition b) = added b
+mark_in event.AdditionEnds = added_ends
 mark_in event.Ends = closes
 mark_in e = other
 
@@ -150,43 +174,43 @@ is_single (chosen b i v) = false
 is_single v = true
 
 pub data Shape (rs : List Record) (w : Value) : Type 0 where
-  single : (r : Record) → rs ≡ r ∷ [] → payload r ≡ Some w → is_off r ≡ false → Shape rs w
-  begun : (r : Record) (qs : List Record) → rs ≡ r ∷ qs → payload r ≡ None → is_off r ≡ false → is_single w ≡ false → Shape rs w
+  single : (r : Record) → rs ≡ r ∷ [] → payload r ≡ Some w → is_off r ≡ false → is_bit r ≡ false → Shape rs w
+  begun : (r : Record) (qs : List Record) → rs ≡ r ∷ qs → payload r ≡ None → is_off r ≡ false → is_bit r ≡ false → is_single w ≡ false → Shape rs w
 
 pub shape : (s : Schema) (v : Value) → Fits s v → Shape (presents s v) v
-unfolding presents Fits payload is_off
+unfolding presents Fits payload is_off is_bit
 shape s v = elim s as (λ s. Fits s v → Shape (presents s v) v) [
-  | boolean ↦ elim v as (λ v. Fits boolean v → Shape (presents boolean v) v) [ truth b ↦ λ f. single (flag b) refl refl refl | _ ↦ λ f. absurd f ]
-  | null ↦ elim v as (λ v. Fits null v → Shape (presents null v) v) [ nothing ↦ λ f. single nil refl refl refl | _ ↦ λ f. absurd f ]
-  | integer b h ↦ elim v as (λ v. Fits (integer b h) v → Shape (presents (integer b h) v) v) [ number n ↦ λ f. single (whole b h n) refl refl refl | _ ↦ λ f. absurd f ]
+  | boolean ↦ elim v as (λ v. Fits boolean v → Shape (presents boolean v) v) [ truth b ↦ λ f. single (flag b) refl refl refl refl | _ ↦ λ f. absurd f ]
+  | null ↦ elim v as (λ v. Fits null v → Shape (presents null v) v) [ nothing ↦ λ f. single nil refl refl refl refl | _ ↦ λ f. absurd f ]
+  | integer b h ↦ elim v as (λ v. Fits (integer b h) v → Shape (presents (integer b h) v) v) [ number n ↦ λ f. single (whole b h n) refl refl refl refl | _ ↦ λ f. absurd f ]
   | enumerated rs e adds ↦ elim v as (λ v. Fits (enumerated rs e adds) v → Shape (presents (enumerated rs e adds) v) v) [
-    | item n ↦ λ f. single (one_of rs e adds n) refl refl refl
+    | item n ↦ λ f. single (one_of rs e adds n) refl refl refl refl
     | _ ↦ λ f. absurd f
   ]
-  | bit_string z h ↦ elim v as (λ v. Fits (bit_string z h) v → Shape (presents (bit_string z h) v) v) [ bit_list bs ↦ λ f. single (bits z h bs) refl refl refl | _ ↦ λ f. absurd f ]
+  | bit_string z h ↦ elim v as (λ v. Fits (bit_string z h) v → Shape (presents (bit_string z h) v) v) [ bit_list bs ↦ λ f. single (bits z h bs) refl refl refl refl | _ ↦ λ f. absurd f ]
   | octet_string z h ↦ elim v as (λ v. Fits (octet_string z h) v → Shape (presents (octet_string z h) v) v) [
-    | octet_list os ↦ λ f. single (octets z h os) refl refl refl
+    | octet_list os ↦ λ f. single (octets z h os) refl refl refl refl
     | _ ↦ λ f. absurd f
   ]
   | character_string k z a h ↦ elim v as (λ v. Fits (character_string k z a h) v → Shape (presents (character_string k z a h) v) v) [
-    | text cs ↦ λ f. single (characters k z a h cs) refl refl refl
+    | text cs ↦ λ f. single (characters k z a h cs) refl refl refl refl
     | _ ↦ λ f. absurd f
   ]
-  | object_identifier ↦ elim v as (λ v. Fits object_identifier v → Shape (presents object_identifier v) v) [ arcs ns ↦ λ f. single (identifier ns) refl refl refl | _ ↦ λ f. absurd f ]
+  | object_identifier ↦ elim v as (λ v. Fits object_identifier v → Shape (presents object_identifier v) v) [ arcs ns ↦ λ f. single (identifier ns) refl refl refl refl | _ ↦ λ f. absurd f ]
   | sequence_of z h t ↦ elim v as (λ v. Fits (sequence_of z h t) v → Shape (presents (sequence_of z h t) v) v) [
-    | members vs ↦ λ f. begun (list_begins z h (member_count vs)) (member_records (λ v. presents t v) vs) refl refl refl refl
+    | members vs ↦ λ f. begun (list_begins z h (member_count vs)) (member_records (λ v. presents t v) vs) refl refl refl refl refl
     | _ ↦ λ f. absurd f
   ]
   | set_of z h t ↦ elim v as (λ v. Fits (set_of z h t) v → Shape (presents (set_of z h t) v) v) [
-    | bag vs ↦ λ f. begun (bag_begins z h (member_count vs)) (member_records (λ v. presents t v) vs) refl refl refl refl
+    | bag vs ↦ λ f. begun (bag_begins z h (member_count vs)) (member_records (λ v. presents t v) vs) refl refl refl refl refl
     | _ ↦ λ f. absurd f
   ]
   | sequence cs e adds ↦ elim v as (λ v. Fits (sequence cs e adds) v → Shape (presents (sequence cs e adds) v) v) [
-    | fields ps qs ↦ λ f. begun (sequence_begins e (optional_count cs)) (root_records cs ps (behind_root e adds (added_records adds qs))) refl refl refl refl
+    | fields ps qs ↦ λ f. begun (sequence_begins e (optional_count cs)) (root_records cs ps (behind_root e adds (added_records adds qs))) refl refl refl refl refl
     | _ ↦ λ f. absurd f
   ]
   | set cs e adds ↦ elim v as (λ v. Fits (set cs e adds) v → Shape (presents (set cs e adds) v) v) [
-    | fields ps qs ↦ λ f. begun (set_begins e (optional_count cs)) (root_records cs ps (behind_root e adds (added_records adds qs))) refl refl refl refl
+    | fields ps qs ↦ λ f. begun (set_begins e (optional_count cs)) (root_records cs ps (behind_root e adds (added_records adds qs))) refl refl refl refl refl
     | _ ↦ λ f. absurd f
   ]
   | group cs ↦ elim v as (λ v. Fits (group cs) v → Shape (presents (group cs) v) v) [
@@ -195,8 +219,8 @@ shape s v = elim s as (λ s. Fits s v → Shape (presents s v) v) [
   ]
   | choice rs e adds ↦ elim v as (λ v. Fits (choice rs e adds) v → Shape (presents (choice rs e adds) v) v) [
     | chosen b i w ↦ elim b as (λ b. Fits (choice rs e adds) (chosen b i w) → Shape (presents (choice rs e adds) (chosen b i w)) (chosen b i w)) [
-      | true ↦ λ f. begun (choice_begins (alternative_tags rs) e (alternative_tags adds) true i) _ refl refl refl refl
-      | false ↦ λ f. begun (choice_begins (alternative_tags rs) e (alternative_tags adds) false i) _ refl refl refl refl
+      | true ↦ λ f. begun (choice_begins (alternative_tags rs) e (alternative_tags adds) true i) _ refl refl refl refl refl
+      | false ↦ λ f. begun (choice_begins (alternative_tags rs) e (alternative_tags adds) false i) _ refl refl refl refl refl
     ]
     | _ ↦ λ f. absurd f
   ]
@@ -205,4 +229,4 @@ shape s v = elim s as (λ s. Fits s v → Shape (presents s v) v) [
   where
     group_shape : (cs : Components) (ps qs : Parts) → qs ≡ end → Shape (presents (group cs) (fields ps qs)) (fields ps qs)
     group_shape cs ps qs e = subst (λ (qs : Parts). Shape (presents (group cs) (fields ps qs)) (fields ps qs)) (sym e)
-        (begun (group_begins (optional_count cs)) (root_records cs ps (ends ∷ [])) refl refl refl refl)
+        (begun (group_begins (optional_count cs)) (root_records cs ps (ends ∷ [])) refl refl refl refl refl)

@@ -1,18 +1,21 @@
 //! Whether records are the value of a default (X.680 25).
 #![tactic(auto, using(std::proofs::lemmas::Grind::common_steps))]
 
-ghost use Rattle.std.specs.Prelude.{◌≡◌, ◌==◌, true, false, is_some, map, option_and_then};
+ghost use Rattle.std.specs.Prelude.{◌≡◌, ◌==◌, true, false, is_some, map, option_and_then, length};
 ghost use Rattle.std.specs.Option.{option_copied};
 ghost use lib.Pointwise.{pointwise};
-ghost use Rattle.asn1_model.specs.Value.{member, no_more, values_of};
+ghost use Rattle.asn1_laws_values.proofs.Counts.{count};
+ghost use Rattle.asn1_model.specs.Value.{same, values_of};
 ghost use Rattle.asn1_table_tape.specs.Strings.{text_of};
-ghost use Rattle.asn1_table_tape.specs.Values.{is_scalar, has_mark, behind_event, behind_value, behind_members};
-ghost use Rattle.asn1_table_types.specs.Values.{list_of, scalar_of, value_of};
+ghost use Rattle.asn1_table_tape.specs.Values.{behind_added, behind_addition, behind_any, behind_bag, behind_each};
+ghost use Rattle.asn1_table_tape.specs.Values.{behind_event, behind_members, behind_nth, behind_root, behind_value};
+ghost use Rattle.asn1_table_tape.specs.Values.{count_alike, count_on, has_mark, is_scalar, past};
+ghost use Rattle.asn1_table_types.specs.Values.{part_of, parts_of, scalar_of, value_of};
 
 use crate::strings::CharacterString;
 use crate::tape::Event;
 use asn1_schema_tags::Chosen;
-use asn1_table_types::{DefaultValue, Event as Scalar};
+use asn1_table_types::{DefaultValue, Event as Scalar, is_same_value};
 
 /// What a record says beside values without parts.
 #[derive(Clone, Copy)]
@@ -23,6 +26,16 @@ pub enum Mark {
     More(bool),
     /// A CHOICE begins, with this alternative.
     Picks(Chosen),
+    /// A SEQUENCE, SET or group of additions begins.
+    Parts,
+    /// Whether a root component is there.
+    Present(bool),
+    /// The additions begin.
+    Additions,
+    /// Whether an addition is there.
+    Added(bool),
+    /// An addition ends.
+    AddedEnds,
     /// A value with parts ends.
     Closes,
 }
@@ -41,22 +54,27 @@ fn behind<'a>(default: &DefaultValue, value: &'a [Event]) -> Option<&'a [Event]>
 {
     match default {
         DefaultValue::Simple(simple) => behind_scalar(simple, value),
-        DefaultValue::SequenceOf(elements) => behind_list(elements.as_slice(), value),
-        DefaultValue::SetOf(element) => behind_bag(element, value),
-        DefaultValue::Choice(chosen, inner) => behind_choice(*chosen, inner, value),
-    }
-}
-
-// The records after a SEQUENCE OF of these elements.
-#[cycle(behind)]
-fn behind_list<'a>(elements: &[DefaultValue], value: &'a [Event]) -> Option<&'a [Event]>
-    ensures { option_copied result
-        ≡ option_and_then (λ rest. behind_members (values_of (map value_of elements.now)) rest)
-        (behind_event (has_mark Mark.Opens) value.now) }
-{
-    match behind_mark(Mark::Opens, value) {
-        None => None,
-        Some(rest) => behind_elements(elements, rest),
+        DefaultValue::SequenceOf(elements) => match behind_mark(Mark::Opens, value) {
+            None => None,
+            Some(rest) => behind_elements(elements.as_slice(), rest),
+        },
+        DefaultValue::SetOf(elements) => match behind_mark(Mark::Opens, value) {
+            None => None,
+            Some(rest) => behind_bag(elements.as_slice(), rest),
+        },
+        DefaultValue::Choice(chosen, inner) => match behind_mark(Mark::Picks(*chosen), value) {
+            None => None,
+            Some(rest) => behind_chosen(inner, rest),
+        },
+        DefaultValue::Components(root, additions) => match behind_mark(Mark::Parts, value) {
+            None => None,
+            Some(rest) => match behind_root(root.as_slice(), rest) {
+                None => None,
+                Some(rest) => {
+                    behind_added(additions.as_slice(), past_mark(Mark::Additions, rest))
+                }
+            },
+        },
     }
 }
 
@@ -67,7 +85,10 @@ fn behind_elements<'a>(elements: &[DefaultValue], value: &'a [Event]) -> Option<
 {
     let mut rest = value;
     for element in elements {
-        match behind_element(element, rest) {
+        let Some(inner) = behind_mark(Mark::More(true), rest) else {
+            return None;
+        };
+        match behind(element, inner) {
             Some(others) => rest = others,
             None => return None,
         }
@@ -75,68 +96,107 @@ fn behind_elements<'a>(elements: &[DefaultValue], value: &'a [Event]) -> Option<
     behind_list_end(rest)
 }
 
-// The records after a SET OF of this element, or of none.
+// The records after the rest of a SET OF, with these elements in any order (X.680 28): of each there are as many.
 #[cycle(behind)]
-fn behind_bag<'a>(element: &Option<Box<DefaultValue>>, value: &'a [Event]) -> Option<&'a [Event]>
-    ensures { option_copied result
-        ≡ option_and_then (λ rest. behind_members (values_of (map value_of (list_of element.now))) rest)
-        (behind_event (has_mark Mark.Opens) value.now) }
+fn behind_bag<'a>(elements: &[DefaultValue], value: &'a [Event]) -> Option<&'a [Event]>
+    ensures { option_copied result ≡ behind_bag (values_of (map value_of elements.now)) value.now }
 {
-    match behind_mark(Mark::Opens, value) {
-        None => None,
-        Some(rest) => behind_only(element, rest),
+    for index in 0..elements.len() {
+        if count_on(elements, index, value) != count_alike(elements, index) {
+            return None;
+        }
     }
+    behind_each(elements, value)
 }
 
-// The records after the rest of a list, with this element, or with none.
+// The records after the rest of a list, with as many elements, each of which is one of these.
 #[cycle(behind)]
-fn behind_only<'a>(element: &Option<Box<DefaultValue>>, value: &'a [Event]) -> Option<&'a [Event]>
-    ensures { option_copied result ≡ behind_members (values_of (map value_of (list_of element.now))) value.now }
+fn behind_each<'a>(elements: &[DefaultValue], value: &'a [Event]) -> Option<&'a [Event]>
+    ensures { option_copied result ≡ behind_each (length elements.now)
+        (λ r. behind_any (values_of (map value_of elements.now)) r) value.now }
 {
-    match element {
-        None => behind_list_end(value),
-        Some(element) => behind_single(element, value),
+    let mut rest = value;
+    for taken in 0..elements.len() {
+        let Some(inner) = behind_mark(Mark::More(true), rest) else {
+            return None;
+        };
+        match behind_any(elements, inner) {
+            Some(others) => rest = others,
+            None => return None,
+        }
     }
+    behind_list_end(rest)
 }
 
-// The same with this element.
+// How many elements are the one at an index, among as many as there are, each of which is one of these.
 #[cycle(behind)]
-fn behind_single<'a>(element: &DefaultValue, value: &'a [Event]) -> Option<&'a [Event]>
-    ensures { option_copied result ≡ behind_members (member (value_of element.now) no_more) value.now }
+fn count_on(elements: &[DefaultValue], index: usize, value: &[Event]) -> usize
+    ensures { result ≡ count_on (length elements.now) (λ r. behind_any (values_of (map value_of elements.now)) r)
+        (λ r. is_some (behind_nth elements.now index r)) value.now }
 {
-    match behind_element(element, value) {
-        None => None,
-        Some(rest) => behind_list_end(rest),
+    let mut count = 0;
+    let mut rest = value;
+    for taken in 0..elements.len() {
+        let Some(inner) = behind_mark(Mark::More(true), rest) else {
+            return count;
+        };
+        if behind_nth(elements, index, inner).is_some() {
+            count += 1;
+        }
+        match behind_any(elements, inner) {
+            Some(others) => rest = others,
+            None => return count,
+        }
     }
+    count
 }
 
-// The records after the next element of a list, if it is this one.
+// The records after the first of these values with which they begin.
 #[cycle(behind)]
-fn behind_element<'a>(element: &DefaultValue, value: &'a [Event]) -> Option<&'a [Event]>
-    ensures { option_copied result ≡ option_and_then (λ rest. behind_value (value_of element.now) rest)
-        (behind_event (has_mark (Mark.More true)) value.now) }
+fn behind_any<'a>(elements: &[DefaultValue], value: &'a [Event]) -> Option<&'a [Event]>
+    ensures { option_copied result ≡ behind_any (values_of (map value_of elements.now)) value.now }
 {
-    match behind_mark(Mark::More(true), value) {
-        None => None,
-        Some(rest) => behind(element, rest),
+    for element in elements {
+        if let Some(rest) = behind(element, value) {
+            return Some(rest);
+        }
     }
+    None
 }
 
-// The records after a CHOICE with this alternative and value.
+// The records after the value at an index, if they begin with it.
 #[cycle(behind)]
-fn behind_choice<'a>(
-    chosen: Chosen,
-    inner: &DefaultValue,
+fn behind_nth<'a>(
+    elements: &[DefaultValue],
+    index: usize,
     value: &'a [Event],
 ) -> Option<&'a [Event]>
-    ensures { option_copied result ≡ option_and_then
-        (λ rest. option_and_then (λ others. behind_event (has_mark Mark.Closes) others)
-        (behind_value (value_of inner.now) rest)) (behind_event (has_mark (Mark.Picks chosen)) value.now) }
+    ensures { option_copied result ≡ behind_nth elements.now index value.now }
 {
-    match behind_mark(Mark::Picks(chosen), value) {
-        None => None,
-        Some(rest) => behind_chosen(inner, rest),
+    let mut before = index;
+    for element in elements {
+        if before == 0 {
+            return behind(element, value);
+        }
+        before -= 1;
     }
+    None
+}
+
+// How many values are the same as the one at an index.
+fn count_alike(values: &[DefaultValue], index: usize) -> usize
+    ensures { result ≡ count_alike values.now index }
+{
+    let Some(value) = values.get(index) else {
+        return 0;
+    };
+    let mut count = 0;
+    for other in values {
+        if is_same_value(value, other) {
+            count += 1;
+        }
+    }
+    count
 }
 
 // The records after this value and the end of a CHOICE.
@@ -148,6 +208,68 @@ fn behind_chosen<'a>(inner: &DefaultValue, value: &'a [Event]) -> Option<&'a [Ev
     match behind(inner, value) {
         None => None,
         Some(rest) => behind_mark(Mark::Closes, rest),
+    }
+}
+
+// The records after these root components.
+#[cycle(behind)]
+fn behind_root<'a>(parts: &[Option<DefaultValue>], value: &'a [Event]) -> Option<&'a [Event]>
+    ensures { option_copied result ≡ behind_root (parts_of (map part_of parts.now)) value.now }
+{
+    let mut rest = value;
+    for part in parts {
+        let others = match part {
+            None => behind_mark(Mark::Present(false), rest),
+            Some(value) => behind(value, past_mark(Mark::Present(true), rest)),
+        };
+        match others {
+            Some(others) => rest = others,
+            None => return None,
+        }
+    }
+    Some(rest)
+}
+
+// The records after these additions and the end.
+#[cycle(behind)]
+fn behind_added<'a>(parts: &[Option<DefaultValue>], value: &'a [Event]) -> Option<&'a [Event]>
+    ensures { option_copied result ≡ behind_added (parts_of (map part_of parts.now)) value.now }
+{
+    let mut rest = value;
+    for part in parts {
+        let others = match part {
+            None => behind_mark(Mark::Added(false), rest),
+            Some(value) => behind_addition(value, rest),
+        };
+        match others {
+            Some(others) => rest = others,
+            None => return None,
+        }
+    }
+    behind_mark(Mark::Closes, rest)
+}
+
+// The records after an addition with this value.
+#[cycle(behind)]
+fn behind_addition<'a>(addition: &DefaultValue, value: &'a [Event]) -> Option<&'a [Event]>
+    ensures { option_copied result ≡ behind_addition (value_of addition.now) value.now }
+{
+    match behind_mark(Mark::Added(true), value) {
+        None => None,
+        Some(rest) => match behind(addition, rest) {
+            None => None,
+            Some(rest) => behind_mark(Mark::AddedEnds, rest),
+        },
+    }
+}
+
+// The records without the first, if that says this.
+fn past_mark(mark: Mark, value: &[Event]) -> &[Event]
+    ensures { result.now ≡ past (has_mark mark) value.now }
+{
+    match value.split_first() {
+        Some((first, rest)) => { if has_mark(mark, first) { rest } else { value } }
+        None => value,
     }
 }
 
@@ -210,6 +332,20 @@ fn has_mark(mark: Mark, event: &Event) -> bool
             }
             _ => false,
         },
+        Mark::Parts => matches!(
+            event,
+            Event::SequenceBegins(_, _) | Event::SetBegins(_, _) | Event::GroupBegins(_)
+        ),
+        Mark::Present(is_present) => match event {
+            Event::PresenceBit(bit) => *bit == is_present,
+            _ => false,
+        },
+        Mark::Additions => matches!(event, Event::AdditionsBegin(_)),
+        Mark::Added(is_present) => match event {
+            Event::Addition(bit) => *bit == is_present,
+            _ => false,
+        },
+        Mark::AddedEnds => matches!(event, Event::AdditionEnds),
         Mark::Closes => matches!(event, Event::Ends),
     }
 }

@@ -7,6 +7,7 @@ ghost use Rattle.std.specs.List.{list_all};
 ghost use Rattle.asn1_model.specs.Lawful.{has_typed_default, is_lawful};
 ghost use Rattle.asn1_model.specs.Normal.{normal, is_at_default, is_group_left_out};
 ghost use Rattle.asn1_model.specs.Schema.{Schema};
+ghost use Rattle.asn1_model.specs.Tidy.{has_normal_default};
 ghost use Rattle.asn1_model.specs.Value.{Value};
 ghost use Rattle.asn1_schema_laws.specs.Presents.{presents, Fits};
 ghost use Rattle.asn1_table_tape.specs.Records.{records_of};
@@ -19,10 +20,11 @@ use crate::tape::Event;
 use asn1_table_types::{Presence, TypeNode, Types};
 
 /// Whether a component with this presence has its default as its value, if its type is lawful and the default is one of
-/// its values.
+/// its values in normal form.
 pub fn is_default(presence: &Presence, value: &[Event]) -> bool
     ensures { (ns : List Node) (s : Schema) (v : Value) → has_typed_default s (presence_of presence.now) ≡ true
-        → is_lawful s ≡ true → Fits s v → records_of ns value.now ≡ presents s (normal s v)
+        → has_normal_default s (presence_of presence.now) ≡ true → is_lawful s ≡ true → Fits s v
+        → records_of ns value.now ≡ presents s (normal s v)
         → result ≡ is_at_default (presence_of presence.now) s v }
 {
     match presence {

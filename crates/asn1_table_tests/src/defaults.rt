@@ -152,14 +152,23 @@ fn list(alloc: Global, elements: Vec<DefaultValue>) -> Nodes {
 
 /// SET OF BOOLEAN with no element as its default.
 fn no_element(alloc: Global) -> Nodes {
-    with_parts(alloc, TypeNode::SetOf(ANY, 0), DefaultValue::SetOf(None))
+    let elements = Vec::new(alloc);
+    with_parts(
+        alloc,
+        TypeNode::SetOf(ANY, 0),
+        DefaultValue::SetOf(elements),
+    )
 }
 
-/// The same with this element.
+/// The same with FALSE and this element.
 fn bag(alloc: Global, element: Event) -> Nodes {
-    let element = Box::new(alloc, DefaultValue::Simple(element))?;
-    let node = TypeNode::SetOf(ANY, 0);
-    with_parts(alloc, node, DefaultValue::SetOf(Some(element)))
+    let falsity = DefaultValue::Simple(Event::Truth(false));
+    let elements = Vec::from_array(alloc, [falsity, DefaultValue::Simple(element)])?;
+    with_parts(
+        alloc,
+        TypeNode::SetOf(ANY, 0),
+        DefaultValue::SetOf(elements),
+    )
 }
 
 /// CHOICE {a BOOLEAN, b BOOLEAN, ..., c BOOLEAN} with this default.

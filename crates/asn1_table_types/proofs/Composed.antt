@@ -1,9 +1,10 @@
 -- Values of defaults: of which types of a table they are.
 use Rattle.std.proofs.Common.{◌≡◌, ◌∙◌, refl, sym, ap, ℕ, zero, suc, ◌<◌, ◌≤◌, ◌+◌, ◌^◌, ◌-◌, Bool, true, false, not, cond, ◌&&◌, ◌||◌, List, [], ◌∷◌}
-use Rattle.std.proofs.Common.{map, drop, get_or, length, is_some, Option, Some, None, option_map, slice_get, Box, Global, arith}
+use Rattle.std.proofs.Common.{map, drop, get_or, length, is_some, Option, Some, None, option_map, slice_get, arith}
 use Rattle.std.specs.Option.{option_map_or}
 use Rattle.std.specs.List.{list_all}
 use Rattle.std.proofs.lemmas.Bool.{le-leb}
+use Rattle.std.proofs.Math.Bool.{and-false}
 use Rattle.std.proofs.lemmas.List.{drop_more, drop_all}
 use Rattle.std.proofs.lemmas.Option.{slice_get_past}
 use Rattle.asn1_model.specs.Value.{Value, Values, truth, nothing, number, item, bit_list, octet_list, text, arcs, members, bag, fields, chosen}
@@ -18,9 +19,10 @@ use Rattle.asn1_table_types.specs.declared.nodes.AlternativeTable.{AlternativeTa
 use Rattle.asn1_table_types.specs.declared.nodes.Component.{Component}
 use Rattle.asn1_table_types.specs.declared.nodes.TypeNode.{TypeNode}
 use Rattle.asn1_table_types.specs.declared.nodes.TypeNode.TheVariants as node
-use Rattle.asn1_table_types.specs.Defaults.{Decides, elements_place, bag_place, chosen_place, place_in, has_type, have_type, have_parts, is_held, is_in}
+use Rattle.asn1_table_types.specs.Defaults.{Decides, elements_place, bag_place, chosen_place, place_in, has_type, have_type, have_parts, is_part, is_held, is_in}
+use Rattle.asn1_table_types.specs.Listed.{root_in, additions_in}
 use Rattle.asn1_table_types.specs.Meaning.{type_of, type_at, alternatives_of, components_of, presence_of}
-use Rattle.asn1_table_types.specs.Values.{value_of, list_of}
+use Rattle.asn1_table_types.specs.Values.{value_of, part_of, parts_of}
 use Rattle.asn1_table_types.proofs.Deciding.{decides_below, decides_by, constant, both_decide, kept_decides}
 use Rattle.asn1_table_types.proofs.Scalars.{placed, any_size, text_held}
 
@@ -34,10 +36,6 @@ held ds h =
     let n = member_count (values_of (map value_of ds)) in
     let k : n < 2 ^ 64 = omega (arith, h, counted ds) in
     rw (le-leb 0 n (omega arith), le-leb n (2 ^ 64 - 1) (omega (arith, k))) refl
-
-pub few : (o : Option (Box DefaultValue Global)) → length (list_of o) < 2 ^ 64
-few None = omega arith
-few (Some d) = omega arith
 
 some_is : {i j : ℕ} → Some i ≡ Some j → i ≡ j
 some_is e = cc
@@ -217,13 +215,70 @@ pub typed_end : (ns : List TypeNode) (o : Option TypeNode) (ds : List DefaultVal
 unfolding have_type
 typed_end ns o ds i h = ap (λ xs. have_type ns o (values_of (map value_of xs))) (drop_all i ds h)
 
-pub no_value : (ns : List TypeNode) (o : Option TypeNode) → have_type ns o no_more ≡ true
-unfolding have_type
-no_value ns o = refl
+-- ---- parts
 
-pub one_value : (ns : List TypeNode) (o : Option TypeNode) (v : Value) → have_type ns o (member v no_more) ≡ has_type ns o v
-unfolding have_type
-one_value ns o v = last (has_type ns o v) where
-  last : (a : Bool) → (a && true) ≡ a
-  last true = refl
-  last false = refl
+none_there : {X A : Type 0} {x : X} → Some x ≡ None → A
+none_there e = cc
+
+there_is : {X : Type 0} {x y : X} → Some x ≡ Some y → x ≡ y
+there_is e = cc
+
+true_after : (a : Bool) → (a && true) ≡ a
+true_after true = refl
+true_after false = refl
+
+pub no_parts : (ns : List TypeNode) (x : TypeNode) (ps qs : Parts) → root_in x ≡ None → has_type ns (Some x) (fields ps qs) ≡ false
+unfolding has_type
+no_parts ns (node.Sequence t) ps qs e = none_there e
+no_parts ns (node.Set t) ps qs e = none_there e
+no_parts ns (node.Group cs) ps qs e = none_there e
+no_parts ns x ps end e = refl
+no_parts ns x ps (absent qs) e = refl
+no_parts ns x ps (present v qs) e = refl
+
+pub parts_typed : (ns : List TypeNode) (x : TypeNode) (cs : List Component) (ps qs : Parts) → root_in x ≡ Some cs →
+    has_type ns (Some x) (fields ps qs) ≡ (have_parts ns cs ps && have_parts ns (additions_in x) qs)
+unfolding has_type have_parts
+parts_typed ns (node.Sequence t) cs ps qs e = ap (λ ds. have_parts ns ds ps && have_parts ns t.additions.items qs) (there_is e)
+parts_typed ns (node.Set t) cs ps qs e = ap (λ ds. have_parts ns ds ps && have_parts ns t.additions.items qs) (there_is e)
+parts_typed ns (node.Group ds) cs ps end e = ap (λ ds. have_parts ns ds ps) (there_is e) ∙ sym (true_after (have_parts ns cs ps))
+parts_typed ns (node.Group ds) cs ps (absent qs) e = sym (and-false (have_parts ns cs ps))
+parts_typed ns (node.Group ds) cs ps (present v qs) e = sym (and-false (have_parts ns cs ps))
+parts_typed ns x cs ps end e = none_there (sym e)
+parts_typed ns x cs ps (absent qs) e = none_there (sym e)
+parts_typed ns x cs ps (present v qs) e = none_there (sym e)
+
+pub parts_short : (ns : List TypeNode) (cs : List Component) (os : List (Option DefaultValue)) → (length cs ≡ length os → ⊥) → have_parts ns cs (parts_of (map part_of os)) ≡ false
+unfolding have_parts
+parts_short ns [] [] n = absurd (n refl)
+parts_short ns [] (None ∷ os) n = refl
+parts_short ns [] (Some d ∷ os) n = refl
+parts_short ns (c ∷ cs) [] n = refl
+parts_short ns (c ∷ cs) (None ∷ os) n = ap (λ b. not (is_required (presence_of c.presence)) && b) (parts_short ns cs os (λ e. n (ap suc e))) ∙ and-false (not (is_required (presence_of c.presence)))
+parts_short ns (c ∷ cs) (Some d ∷ os) n = ap (λ b. has_type ns (slice_get ns c.place) (value_of d) && b) (parts_short ns cs os (λ e. n (ap suc e)))
+    ∙ and-false (has_type ns (slice_get ns c.place) (value_of d))
+
+part_step : (ns : List TypeNode) (c : Component) (cs : List Component) (o : Option DefaultValue) (os : List (Option DefaultValue)) →
+    have_parts ns (c ∷ cs) (parts_of (map part_of (o ∷ os))) ≡ (is_part ns c (part_of o) && have_parts ns cs (parts_of (map part_of os)))
+unfolding have_parts
+part_step ns c cs None os = refl
+part_step ns c cs (Some d) os = refl
+
+pub parts_over : (ns : List TypeNode) (cs : List Component) (os : List (Option DefaultValue)) → length cs ≡ length os → length cs ≡ 0 → have_parts ns cs (parts_of (map part_of os)) ≡ true
+unfolding have_parts
+parts_over ns [] [] n e = refl
+parts_over ns [] (o ∷ os) n e = absurd (omega (arith, n))
+parts_over ns (c ∷ cs) os n e = absurd (omega (arith, e))
+
+-- one step of a walk over both
+pub part_next : (ns : List TypeNode) (c : Component) (cs ds : List Component) (o : Option DefaultValue) (os us : List (Option DefaultValue)) (b : Bool) → ds ≡ c ∷ cs → us ≡ o ∷ os → b ≡ is_part ns c (part_of o) →
+    have_parts ns ds (parts_of (map part_of us)) ≡ (b && have_parts ns cs (parts_of (map part_of os)))
+part_next ns c cs ds o os us b e f q =
+    ap (λ xs. have_parts ns xs (parts_of (map part_of us))) e ∙ ap (λ ys. have_parts ns (c ∷ cs) (parts_of (map part_of ys))) f ∙ part_step ns c cs o os
+    ∙ ap (λ x. x && have_parts ns cs (parts_of (map part_of os))) (sym q)
+
+pub lengths_next : {A B : Type 0} (x : A) (xs us : List A) (y : B) (ys vs : List B) → us ≡ x ∷ xs → vs ≡ y ∷ ys → length us ≡ length vs → length xs ≡ length ys
+lengths_next x xs us y ys vs e f n =
+    let p : length us ≡ suc (length xs) = ap (λ ws. length ws) e in
+    let q : length vs ≡ suc (length ys) = ap (λ ws. length ws) f in
+    omega (arith, n, p, q)

@@ -10,3 +10,5 @@ pub mod Inserting
 pub mod Tagged
 pub mod Composed
 pub mod Values
+pub mod EqualBags
+pub mod NormalDefaults

@@ -118,6 +118,11 @@ unfoldable mutual
   have_parts ns (c ∷ cs) (absent ps) = not (is_required (presence_of c.presence)) && have_parts ns cs ps
   have_parts ns cs ps = false
 
+-- A part, present or absent, is that of a component.
+abbrev pub is_part : List TypeNode → Component → Option Value → Bool
+is_part ns c (Some v) = has_type ns (slice_get ns c.place) v
+is_part ns c None = not (is_required (presence_of c.presence))
+
 -- Some number of levels has this answer.
 pub record AtSome (holds : ℕ → Bool) (answer : Bool) : Type 0 where
   pub levels : ℕ

@@ -5,3 +5,6 @@ pub mod Orders
 pub mod Flaws
 pub mod Tables
 pub mod Choices
+pub mod Listed
+pub mod Reduced
+pub mod Sameness

@@ -1,14 +1,13 @@
 -- The values of defaults (X.680 25).
-use Rattle.std.specs.Prelude.{List, [], ◌∷◌, Option, Some, None, Box}
-use Rattle.std.specs.Global.{Global}
+use Rattle.std.specs.Prelude.{List, [], ◌∷◌, Option, Some, None, option_map}
 use Rattle.asn1_model.specs.Value.{Value, truth, nothing, number, item, bit_list, octet_list, text, arcs, members}
-use Rattle.asn1_model.specs.Value.{bag, chosen, values_of}
+use Rattle.asn1_model.specs.Value.{bag, fields, chosen, values_of, Parts, end, absent, present}
 use Rattle.asn1_table_types.specs.declared.events.Event.{Event}
 use Rattle.asn1_table_types.specs.declared.events.Event.TheVariants as event
 use Rattle.asn1_table_types.specs.declared.events.DefaultValue.{DefaultValue}
 use Rattle.asn1_table_types.specs.declared.events.DefaultValue.TheFolds.{fold-DefaultValue}
 use Rattle.asn1_table_types.specs.declared.events.DefaultValue.TheOpen.{DefaultValue-F, Simple, SequenceOf, SetOf}
-use Rattle.asn1_table_types.specs.declared.events.DefaultValue.TheOpen.{Choice}
+use Rattle.asn1_table_types.specs.declared.events.DefaultValue.TheOpen.{Choice, Components}
 
 -- The value of an event, which has no parts.
 abbrev pub scalar_of : Event → Value
@@ -21,18 +20,24 @@ scalar_of (event.Octets os) = octet_list os.items
 scalar_of (event.Text cs) = text cs.items
 scalar_of (event.Arcs ns) = arcs ns
 
--- The element, if there is one.
-abbrev pub list_of : {X : Type 0} → Option (Box X Global) → List X
-list_of None = []
-list_of (Some x) = x.value ∷ []
+-- Parts, present or absent.
+abbrev pub parts_of : List (Option Value) → Parts
+parts_of [] = end
+parts_of (None ∷ os) = absent (parts_of os)
+parts_of (Some v ∷ os) = present v (parts_of os)
 
 -- The value of a default, given those of its parts.
 abbrev pub value_step : DefaultValue-F Value → Value
 value_step (Simple e) = scalar_of e
 value_step (SequenceOf vs) = members (values_of vs.items)
-value_step (SetOf o) = bag (values_of (list_of o))
+value_step (SetOf vs) = bag (values_of vs.items)
 value_step (Choice c v) = chosen c.added c.place v.value
+value_step (Components ps qs) = fields (parts_of ps.items) (parts_of qs.items)
 
 -- The value of a default.
 abbrev pub value_of : DefaultValue → Value
 value_of = fold-DefaultValue Value value_step
+
+-- The part of a default, if it is present.
+abbrev pub part_of : Option DefaultValue → Option Value
+part_of o = option_map value_of o

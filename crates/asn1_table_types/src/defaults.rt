@@ -4,21 +4,23 @@
 ghost use Rattle.std.specs.Prelude.{◌≡◌, ℕ, true, ◌&&◌, IfErr, OnOk, Some, length, map, slice_get};
 ghost use Rattle.std.specs.Option.{option_map};
 ghost use Rattle.asn1_model.specs.Lawful.{has_typed_default};
+ghost use Rattle.asn1_model.specs.Normal.{is_required};
 ghost use Rattle.std.specs.List.{list_all};
 ghost use Rattle.asn1_model.specs.Strings.{is_identifier, is_octet, is_of_octets, may_hold};
 ghost use Rattle.asn1_model.specs.Value.{values_of};
 ghost use Rattle.asn1_table_types.specs.Defaults.{is_number_of, is_item_of, is_size_of, is_text_of, is_scalar};
 ghost use Rattle.asn1_table_types.specs.Defaults.{elements_place, bag_place, chosen_place, place_in, has_type};
-ghost use Rattle.asn1_table_types.specs.Defaults.{have_type, AtSome, Decides};
+ghost use Rattle.asn1_table_types.specs.Defaults.{have_type, have_parts, AtSome, Decides};
 ghost use Rattle.asn1_table_types.specs.Flaws.{has_defaults, have_defaults, lacks};
 ghost use Rattle.asn1_table_types.specs.Meaning.{components_of, kind_of, presence_of, type_of, type_at};
-ghost use Rattle.asn1_table_types.specs.Values.{list_of, value_of};
+ghost use Rattle.asn1_table_types.specs.Values.{part_of, parts_of, value_of};
 ghost use Rattle.asn1_values_alphabets.specs.Permitted.{permits_all};
 
 use crate::items::item_differs;
+use crate::listed::{additions_of, bag_place, elements_place, place_among, root_of};
 use crate::{
-    Alternative, AlternativeTable, Component, DefaultValue, Event, Flaw, ItemTable, NumberLimits,
-    Presence, StringKind, StringTable, TypeNode,
+    AlternativeTable, Component, DefaultValue, Event, Flaw, ItemTable, NumberLimits, Presence,
+    StringKind, StringTable, TypeNode,
 };
 use asn1_schema_constraints::{Bounded, Sizes};
 use asn1_schema_tags::Chosen;
@@ -109,13 +111,20 @@ fn is_of_node(nodes: &[TypeNode], node: &TypeNode, value: &DefaultValue) -> bool
             None => false,
             Some(place) => are_of_type(nodes, place, elements.as_slice()),
         },
-        DefaultValue::SetOf(element) => match bag_place(node) {
+        DefaultValue::SetOf(elements) => match bag_place(node) {
             None => false,
-            Some(place) => is_element_of(nodes, place, element),
+            Some(place) => are_of_type(nodes, place, elements.as_slice()),
         },
         DefaultValue::Choice(chosen, value) => match chosen_place(node, *chosen) {
             None => false,
             Some(place) => is_of_type(nodes, place, value),
+        },
+        DefaultValue::Components(root, additions) => match root_of(node) {
+            None => false,
+            Some(components) => {
+                have_parts(nodes, components, root.as_slice())
+                    && have_parts(nodes, additions_of(node), additions.as_slice())
+            }
         },
     }
 }
@@ -133,36 +142,31 @@ fn are_of_type(nodes: &[TypeNode], place: usize, values: &[DefaultValue]) -> boo
     true
 }
 
-/// Whether a value, if there is one, is of the type at an index.
+/// Whether parts are those of components (X.680 25).
 #[cycle(typed)]
-fn is_element_of(nodes: &[TypeNode], place: usize, element: &Option<Box<DefaultValue>>) -> bool
-    ensures { result ≡ have_type nodes.now (slice_get nodes.now place)
-        (values_of (map value_of (list_of element.now))) }
+fn have_parts(nodes: &[TypeNode], components: &[Component], parts: &[Option<DefaultValue>]) -> bool
+    ensures { result ≡ have_parts nodes.now components.now (parts_of (map part_of parts.now)) }
 {
-    match element {
-        None => true,
-        Some(value) => is_of_type(nodes, place, value),
+    if components.len() != parts.len() {
+        return false;
     }
+    for (component, part) in components.iter().zip(parts) {
+        let is_part = match part {
+            None => !is_required(&component.presence),
+            Some(value) => is_of_type(nodes, component.place, value),
+        };
+        if !is_part {
+            return false;
+        }
+    }
+    true
 }
 
-/// The index of the type of a SEQUENCE OF's elements.
-fn elements_place(node: &TypeNode) -> Option<usize>
-    ensures { result ≡ elements_place node.now }
+/// Whether a component is always there.
+fn is_required(presence: &Presence) -> bool
+    ensures { result ≡ is_required (presence_of presence.now) }
 {
-    match node {
-        TypeNode::SequenceOf(_sizes, place) => Some(*place),
-        _ => None,
-    }
-}
-
-/// The index of the type of a SET OF's elements.
-fn bag_place(node: &TypeNode) -> Option<usize>
-    ensures { result ≡ bag_place node.now }
-{
-    match node {
-        TypeNode::SetOf(_sizes, place) => Some(*place),
-        _ => None,
-    }
+    matches!(presence, Presence::Required)
 }
 
 /// The index of the type of the chosen alternative of a CHOICE, if there is one.
@@ -186,16 +190,6 @@ fn place_in(table: &AlternativeTable, chosen: Chosen) -> Option<usize>
         return None;
     }
     place_among(table.additions.as_slice(), chosen.place)
-}
-
-/// The index of the type of an alternative with this choice index, if there is one.
-fn place_among(alternatives: &[Alternative], index: usize) -> Option<usize>
-    ensures { result ≡ option_map (λ a. a.place) (slice_get alternatives.now index) }
-{
-    if index >= alternatives.len() {
-        return None;
-    }
-    Some(alternatives[index].place)
 }
 
 /// Whether a value without parts is of a type.

@@ -26,16 +26,18 @@ pub enum Event {
     Arcs(ObjectIdentifier),
 }
 
-/// The value that is meant where a component with DEFAULT is absent (X.680 25). Values of SEQUENCE and SET, and a SET OF
-/// of several elements, cannot be given.
+/// The value that is meant where a component with DEFAULT is absent (X.680 25).
 #[derive(Drop)]
 pub enum DefaultValue {
     /// A value without parts.
     Simple(Event),
     /// A SEQUENCE OF (X.680 26), by its elements.
     SequenceOf(Vec<DefaultValue>),
-    /// A SET OF (X.680 28), by its element, if it has one.
-    SetOf(Option<Box<DefaultValue>>),
+    /// A SET OF (X.680 28), by its elements in any order.
+    SetOf(Vec<DefaultValue>),
     /// A CHOICE (X.680 29), by the chosen alternative and its value.
     Choice(Chosen, Box<DefaultValue>),
+    /// A SEQUENCE or SET (X.680 25 and 27), by its root components and its additions, present or absent, in the order of
+    /// the type; of a group of additions, its components are the first, and there are no second ones.
+    Components(Vec<Option<DefaultValue>>, Vec<Option<DefaultValue>>),
 }

@@ -63,6 +63,13 @@ pub enum TableError {
         /// What is wrong with it.
         flaw: Flaw,
     },
+    /// A default of a type's components is not in normal form: a component in it has its own default as its value, or a
+    /// group of additions in it is empty (X.691 19.5 and 19.9, X.696 16). Such a part is to be given as absent.
+    #[error("type {place} has a default that gives a component its own default, or an empty group")]
+    DefaultNotNormal {
+        /// The place of the type.
+        place: usize,
+    },
     /// Memory ran out during the check.
     #[error("out of memory")]
     OutOfMemory,

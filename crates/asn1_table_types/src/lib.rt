@@ -10,7 +10,10 @@ mod events;
 mod faults;
 mod groups;
 mod items;
+mod listed;
 mod nodes;
+mod reduced;
+mod sameness;
 mod tables;
 mod tags;
 
@@ -20,4 +23,5 @@ pub use nodes::{
     Alternative, AlternativeTable, CharacterTable, Component, ComponentTable, ItemTable,
     NumberLimits, Presence, StringKind, StringTable, TypeNode,
 };
+pub use sameness::is_same_value;
 pub use tables::Types;

@@ -4,32 +4,37 @@ ghost use Rattle.std.specs.Option.{option_copied};
 ghost use Rattle.asn1_table_types.specs.Choices.{tags_at, tags_in};
 ghost use Rattle.asn1_table_types.specs.Flaws.{is_sound, has_defaults, lacks};
 ghost use Rattle.asn1_table_types.specs.Meaning.{type_of, type_at};
-ghost use Rattle.asn1_table_types.specs.Tables.{AreLawful, IsRefused, IsDueAt, error_of};
+ghost use Rattle.asn1_table_types.specs.Reduced.{has_reduced_defaults};
+ghost use Rattle.asn1_table_types.specs.Tables.{AreLawful, AreTidy, IsRefused, IsDueAt, error_of};
 
 use crate::checks::check_node;
 use crate::choice_tags::{AlternativeTags, choices_of};
 use crate::defaults::check_defaults;
 use crate::faults::Refusal;
+use crate::reduced::has_reduced_defaults;
 use crate::{TableError, TypeNode};
 use asn1_schema_tags::TagTables;
 use std::alloc::Global;
 
-/// Types, each of them lawful, however deep it is unfolded.
+/// Types, each of them lawful and with defaults in normal form, however deep it is unfolded.
 #[derive(Drop)]
 pub struct Types {
     nodes: Vec<TypeNode>,
     // Of each node the tags, if it is a CHOICE.
     choices: Vec<Option<AlternativeTags>>,
     pub ghost lawful: { AreLawful nodes.items },
+    pub ghost tidy: { AreTidy nodes.items },
     pub ghost tagged: { choices.items ≡ map tags_in nodes.items },
 }
 
 impl Types {
-    /// A table of these types, if each is lawful, however deep it is unfolded. An index may be outside the table.
+    /// A table of these types, if each is lawful and has its defaults in normal form, however deep it is unfolded. An
+    /// index may be outside the table.
     ///
     /// # Errors
     ///
-    /// `Unlawful` with the index of a type that is not lawful and what is wrong with it; `OutOfMemory`.
+    /// `Unlawful` with the index of a type that is not lawful and what is wrong with it; `DefaultNotNormal` with the
+    /// index of a type with a default that is not in normal form; `OutOfMemory`.
     pub fn new(alloc: Global, nodes: Vec<TypeNode>) -> Result<Types, TableError>
         ensures types { IfOk result (λ types. types.nodes ≡ nodes) }
         ensures refused { IfErr result (λ e. IsRefused nodes.items e) }
@@ -70,6 +75,7 @@ impl Types {
 fn check_all(alloc: Global, nodes: &[TypeNode]) -> Result<(), TableError>
     ensures sound { OnOk result ((i : ℕ) → is_sound (type_at nodes.now 2 i) ≡ true) }
     ensures typed { OnOk result ((n i : ℕ) → has_defaults (type_at nodes.now n i) ≡ true) }
+    ensures reduced { OnOk result ((i : ℕ) → has_reduced_defaults nodes.now (slice_get nodes.now i) ≡ true) }
     ensures refused { IfErr result (λ e. IsRefused nodes.now e) }
 {
     for place in 0..nodes.len() {
@@ -82,15 +88,19 @@ fn check_all(alloc: Global, nodes: &[TypeNode]) -> Result<(), TableError>
 fn check_place(alloc: Global, nodes: &[TypeNode], place: usize) -> Result<(), TableError>
     ensures sound { OnOk result (is_sound (type_at nodes.now 2 place) ≡ true) }
     ensures typed { OnOk result ((n : ℕ) → has_defaults (type_at nodes.now n place) ≡ true) }
+    ensures reduced { OnOk result (has_reduced_defaults nodes.now (slice_get nodes.now place) ≡ true) }
     ensures refused { IfErr result (λ e. IsRefused nodes.now e) }
 {
-    match nodes.get(place) {
-        None => Ok(()),
-        Some(node) => match check_whole(alloc, nodes, node) {
-            Ok(()) => Ok(()),
-            Err(refusal) => Err(refused_at(place, refusal)),
-        },
+    let Some(node) = nodes.get(place) else {
+        return Ok(());
+    };
+    if let Err(refusal) = check_whole(alloc, nodes, node) {
+        return Err(refused_at(place, refusal));
     }
+    if !has_reduced_defaults(nodes, node) {
+        return Err(TableError::DefaultNotNormal { place });
+    }
+    Ok(())
 }
 
 /// A node of a table meets its conditions, and so do its defaults.

@@ -8,10 +8,11 @@ use Rattle.asn1_model.specs.Schema.{Schema, Presence, Components}
 use Rattle.asn1_model.specs.Lawful.{is_lawful, are_lawful, is_group, is_optional, are_groups_in_place, has_typed_default, are_no_components, are_distinct, tag_same, component_tags}
 use Rattle.asn1_model.specs.Lawful.{is_sequence_table, are_tags_of, are_ascending, tag_less, component_places}
 use Rattle.asn1_model.specs.Normal.{is_required}
+use Rattle.asn1_model.specs.Tidy.{is_tidy, are_tidy, has_normal_default}
 use Rattle.asn1_schema_laws.specs.Presents.{optional_count, component_count}
 use Rattle.asn1_schema_tags.specs.Tags.{tag_of}
 use Rattle.asn1_table_types.specs.Meaning.{type_of, type_at, components_of, presence_of}
-use Rattle.asn1_table_types.specs.Tables.{AreLawful}
+use Rattle.asn1_table_types.specs.Tables.{AreLawful, AreTidy}
 use Rattle.asn1_table_types.specs.declared.nodes.Component.{Component}
 use Rattle.asn1_table_types.specs.declared.nodes.TypeNode.{TypeNode}
 use Rattle.asn1_table_types.specs.declared.nodes.TypeNode.TheVariants as node
@@ -114,6 +115,54 @@ root_fine ns n place t i x l e h q = fine_at false (λ i. type_at ns n i) t.root
 pub added_fine : (ns : List TypeNode) (n place : ℕ) (t : Lists) (i : ℕ) (x : Component) → AreLawful ns → lists_in (slice_get ns place) ≡ Some t → i < length t.additions →
     x ≡ get_or t.additions i x → FineAt true (presence_of x.presence) (type_at ns n x.place)
 added_fine ns n place t i x l e h q = fine_at true (λ i. type_at ns n i) t.additions i x (fine_lists ns n place t l e).additions h q
+
+-- ---- defaults in normal form
+
+record BothTidy (f : ℕ → Schema) (t : Lists) : Type 0 where
+  pub root : are_tidy (components_of f t.root) ≡ true
+  pub additions : are_tidy (components_of f t.additions) ≡ true
+
+tidy_lists : (ns : List TypeNode) (n : ℕ) (y : TypeNode) (t : Lists) → is_tidy (type_of ns (suc n) (Some y)) ≡ true → lists_in (Some y) ≡ Some t → BothTidy (λ i. type_at ns n i) t
+unfolding is_tidy are_tidy
+tidy_lists ns n y t = elim y as (λ y. is_tidy (type_of ns (suc n) (Some y)) ≡ true → lists_in (Some y) ≡ Some t → BothTidy (λ i. type_at ns n i) t) [
+  | node.Sequence u ↦ λ l e.
+      let f : ℕ → Schema = λ i. type_at ns n i in
+      let a = and_parts (are_tidy (components_of f u.root.items)) (are_tidy (components_of f u.additions.items)) l in
+      subst (λ (t : Lists). BothTidy f t) (some_lists e) (record { root = a.0; additions = a.1 })
+  | node.Set u ↦ λ l e.
+      let f : ℕ → Schema = λ i. type_at ns n i in
+      let a = and_parts (are_tidy (components_of f u.root.items)) (are_tidy (components_of f u.additions.items)) l in
+      subst (λ (t : Lists). BothTidy f t) (some_lists e) (record { root = a.0; additions = a.1 })
+  | node.Group u ↦ λ l e. subst (λ (t : Lists). BothTidy (λ i. type_at ns n i) t) (some_lists e) (record { root = l; additions = refl })
+  | _ ↦ λ l e. absurd (let z : None ≡ Some t = e in cc)
+]
+
+both_tidy : (ns : List TypeNode) (n place : ℕ) (t : Lists) → AreTidy ns → lists_in (slice_get ns place) ≡ Some t → BothTidy (λ i. type_at ns n i) t
+both_tidy ns n place t l = by_node (slice_get ns place) refl
+  where
+    by_node : (o : Option TypeNode) → slice_get ns place ≡ o → lists_in o ≡ Some t → BothTidy (λ i. type_at ns n i) t
+    by_node None q e = absurd (let z : None ≡ Some t = e in cc)
+    by_node (Some y) q e = tidy_lists ns n y t (ap (λ o. is_tidy (type_of ns (suc n) o)) (sym q) ∙ l (suc n) place) e
+
+tidy_at : (f : ℕ → Schema) (cs : List Component) (i : ℕ) (x : Component) → are_tidy (components_of f cs) ≡ true → i < length cs → x ≡ get_or cs i x →
+    has_normal_default (f x.place) (presence_of x.presence) ≡ true
+unfolding are_tidy
+tidy_at f [] i x h l e = absurd (omega (arith, l))
+tidy_at f (c ∷ cs) zero x h l e =
+    let a = and_parts (has_normal_default (f c.place) (presence_of c.presence) && is_tidy (f c.place)) (are_tidy (components_of f cs)) h in
+    let b = and_parts (has_normal_default (f c.place) (presence_of c.presence)) (is_tidy (f c.place)) a.0 in
+    subst (λ (y : Component). has_normal_default (f y.place) (presence_of y.presence) ≡ true) (sym e) b.0
+tidy_at f (c ∷ cs) (suc i) x h l e =
+    let a = and_parts (has_normal_default (f c.place) (presence_of c.presence) && is_tidy (f c.place)) (are_tidy (components_of f cs)) h in
+    tidy_at f cs i x a.1 (let k : suc i < suc (length cs) = l in omega (arith, k)) e
+
+pub root_tidy : (ns : List TypeNode) (n place : ℕ) (t : Lists) (i : ℕ) (x : Component) → AreTidy ns → lists_in (slice_get ns place) ≡ Some t → i < length t.root → x ≡ get_or t.root i x →
+    has_normal_default (type_at ns n x.place) (presence_of x.presence) ≡ true
+root_tidy ns n place t i x l e h q = tidy_at (λ i. type_at ns n i) t.root i x (both_tidy ns n place t l e).root h q
+
+pub added_tidy : (ns : List TypeNode) (n place : ℕ) (t : Lists) (i : ℕ) (x : Component) → AreTidy ns → lists_in (slice_get ns place) ≡ Some t → i < length t.additions → x ≡ get_or t.additions i x →
+    has_normal_default (type_at ns n x.place) (presence_of x.presence) ≡ true
+added_tidy ns n place t i x l e h q = tidy_at (λ i. type_at ns n i) t.additions i x (both_tidy ns n place t l e).additions h q
 
 -- ---- results
 

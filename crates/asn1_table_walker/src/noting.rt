@@ -5,6 +5,7 @@
 ghost use Rattle.std.specs.Prelude.{◌≡◌, ◌+◌, ◌++◌, [], ◌∷◌, ℕ, true, Err, IfOk, IfErr, OnOk, OnErr, drop};
 ghost use Rattle.std.proofs.Math.ListN.{take};
 ghost use Rattle.asn1_model.specs.Lawful.{has_typed_default};
+ghost use Rattle.asn1_model.specs.Tidy.{has_normal_default};
 ghost use Rattle.asn1_table_laws.specs.Walks.{Notes, NotNoted, Stuck, Turns};
 ghost use Rattle.asn1_table_tape.specs.Records.{records_of};
 ghost use Rattle.asn1_table_types.specs.Meaning.{presence_of, type_at};
@@ -139,9 +140,13 @@ fn note<D: Decoder>(
 ) -> Result<bool, DecodeError>
     ensures ok { IfOk result (λ b. (n : ℕ) → has_typed_default
         (type_at types.now.nodes.items n component.now.place) (presence_of component.now.presence) ≡ true
+        → has_normal_default
+        (type_at types.now.nodes.items n component.now.place) (presence_of component.now.presence) ≡ true
         → Notes D.step (presence_of component.now.presence) (type_at types.now.nodes.items n component.now.place)
         (records_of types.now.nodes.items value.now) b decoder.old decoder.new) }
     ensures only { IfErr result (λ x. (n : ℕ) → has_typed_default
+        (type_at types.now.nodes.items n component.now.place) (presence_of component.now.presence) ≡ true
+        → has_normal_default
         (type_at types.now.nodes.items n component.now.place) (presence_of component.now.presence) ≡ true
         → NotNoted D.step D.too_few (presence_of component.now.presence)
         (type_at types.now.nodes.items n component.now.place)

@@ -1,0 +1,22 @@
+//! What the names and values of modules in the notation of X.680 stand for, and what is wrong with them.
+#![tactic(auto, using(std::proofs::lemmas::Grind::common_steps))]
+
+mod classes;
+mod distinct;
+mod errors;
+mod identifiers;
+mod instances;
+mod items;
+mod numbers;
+mod references;
+mod scopes;
+mod suggestions;
+
+pub use classes::type_of_field;
+pub use distinct::NameSet;
+pub use errors::{Explained, Near, NotationError, Problem};
+pub use identifiers::arcs_of;
+pub use items::{Numbered, Numbers, numbers_of};
+pub use numbers::{ValueUse, integer_of, item_of, may_be, number_of, settled};
+pub use references::{referenced, type_of_symbol};
+pub use scopes::{Files, Index, Scope, Symbol, TypeUse};

@@ -1,0 +1,303 @@
+//! Values without parts, as defaults have them (X.680 17.7).
+ghost use Rattle.std.specs.Prelude.{◌≡◌, false, IfSome};
+ghost use Rattle.asn1_schema_constraints.specs.declared.bounds.Bounded.TheVariants.{Single};
+
+use crate::building::{has_known_multiplier, string_kind};
+use asn1_notation_resolving::{
+    Base, Files, NotationError, Problem, ValueUse, arcs_of, integer_of, item_of, number_limits,
+    numbers_of, permits, settled, sizes,
+};
+use asn1_notation_tree::{Enumeration, ListElement, NamedNumber, StringName, TypeKind, ValueKind};
+use asn1_schema_constraints::{Bounded, Sizes};
+use asn1_table_types::{Event, StringKind};
+use asn1_values_bit_strings::BitString;
+use asn1_values_identifiers::ObjectIdentifier;
+use asn1_values_integers::Integer;
+use std::alloc::Global;
+use std::borrow::CowSlice;
+use std::str;
+
+/// How many bits a default with named bits has at most.
+const MOST_BITS: usize = 65_536;
+
+/// Values of a type, and where they are written.
+#[derive(Clone, Copy)]
+struct Valued<'a, 'b, 'i> {
+    alloc: Global,
+    files: &'b Files<'a, 'i>,
+    base: &'b Base<'a>,
+    value: ValueUse,
+    /// The size of a BIT STRING with named bits, if it is fixed.
+    size: Option<usize>,
+}
+
+/// The size, if it is fixed.
+pub(crate) fn fixed_size(sizes: &Sizes) -> Option<usize>
+    ensures root { IfSome result (λ size. sizes.now.root ≡ Single size) }
+    ensures closed { IfSome result (λ _. sizes.now.is_extensible ≡ false) }
+{
+    match sizes.root {
+        Bounded::Single(size) if !sizes.is_extensible => Some(size),
+        _ => None,
+    }
+}
+
+/// A value without parts, of a type, which its constraints allow.
+pub(crate) fn event_of<'a>(
+    alloc: Global,
+    files: &mut Files<'a, '_>,
+    base: &Base<'a>,
+    value: ValueUse,
+) -> Result<Event, NotationError> {
+    let event = written_event(alloc, files, base, value)?;
+    if is_allowed(alloc, files, base, &event)? {
+        return Ok(event);
+    }
+    Err(value.error(files, Problem::DefaultOutside))
+}
+
+/// Whether the constraints of a type allow a value, as far as they count in all rules, and the permitted alphabet.
+fn is_allowed(
+    alloc: Global,
+    files: &mut Files<'_, '_>,
+    base: &Base<'_>,
+    event: &Event,
+) -> Result<bool, NotationError> {
+    match (event, &base.term.kind) {
+        (Event::Number(number), _) => match number_limits(alloc, files, base)? {
+            Some(limits) => Ok(limits.is_extensible || limits.root.in_bound(number)),
+            None => Ok(true),
+        },
+        (Event::Bits(bits), _) => has_size(alloc, files, base, bits.len()),
+        (Event::Octets(octets), _) => has_size(alloc, files, base, octets.len()),
+        (Event::Text(characters), TypeKind::CharacterString(name)) => match string_kind(*name) {
+            Some(kind) => {
+                let characters = characters.as_slice();
+                let are_permitted = permits(alloc, files, base, kind, characters)?;
+                Ok(are_permitted && has_length(alloc, files, base, kind, characters.len())?)
+            }
+            None => Ok(true),
+        },
+        _ => Ok(true),
+    }
+}
+
+/// Whether the constraints of a type allow a size (X.680 51.5).
+pub(crate) fn has_size(
+    alloc: Global,
+    files: &mut Files<'_, '_>,
+    base: &Base<'_>,
+    size: usize,
+) -> Result<bool, NotationError> {
+    let sizes = sizes(alloc, files, base)?;
+    Ok(sizes.is_extensible || sizes.root.contains(&size))
+}
+
+/// Whether the constraints of a string allow a number of characters.
+fn has_length(
+    alloc: Global,
+    files: &mut Files<'_, '_>,
+    base: &Base<'_>,
+    kind: StringKind,
+    length: usize,
+) -> Result<bool, NotationError> {
+    Ok(!has_known_multiplier(kind) || has_size(alloc, files, base, length)?)
+}
+
+/// A value without parts, of a type.
+fn written_event<'a>(
+    alloc: Global,
+    files: &mut Files<'a, '_>,
+    base: &Base<'a>,
+    value: ValueUse,
+) -> Result<Event, NotationError> {
+    let size = match &base.term.kind {
+        TypeKind::BitString(names) if !names.is_empty() => {
+            fixed_size(&sizes(alloc, files, base)?)
+        }
+        _ => None,
+    };
+    let valued = Valued {
+        alloc,
+        files,
+        base,
+        value,
+        size,
+    };
+    match &base.term.kind {
+        TypeKind::Boolean => valued.truth(),
+        TypeKind::Null => valued.nothing(),
+        TypeKind::Integer(numbers) => valued.number(numbers.as_slice()),
+        TypeKind::Enumerated(items) => valued.item(items),
+        TypeKind::BitString(names) => valued.bits(names.as_slice()),
+        TypeKind::OctetString => valued.octets(),
+        TypeKind::CharacterString(name) => valued.text(*name),
+        TypeKind::ObjectIdentifier => valued.arcs(),
+        _ => Err(valued.error(Problem::UnsupportedDefault)),
+    }
+}
+
+impl Valued<'_, '_, '_> {
+    /// An error at the value.
+    fn error(self, problem: Problem) -> NotationError {
+        self.value.error(self.files, problem)
+    }
+
+    /// A value of BOOLEAN (X.680 18.3).
+    fn truth(self) -> Result<Event, NotationError> {
+        let at = settled(self.files, self.value)?;
+        match self.files.value_term(at.scope, at.index)?.kind {
+            ValueKind::Boolean(value) => Ok(Event::Truth(value)),
+            _ => Err(self.error(Problem::ValueOfOtherType)),
+        }
+    }
+
+    /// The value of NULL (X.680 24.3).
+    fn nothing(self) -> Result<Event, NotationError> {
+        let at = settled(self.files, self.value)?;
+        match self.files.value_term(at.scope, at.index)?.kind {
+            ValueKind::Null => Ok(Event::Nothing),
+            _ => Err(self.error(Problem::ValueOfOtherType)),
+        }
+    }
+
+    /// A value of INTEGER (X.680 19.9).
+    fn number(self, numbers: &[NamedNumber]) -> Result<Event, NotationError> {
+        let number = integer_of(self.files, self.base.at.scope, numbers, self.value)?;
+        Ok(Event::Number(Integer::from_i128(number)))
+    }
+
+    /// A value of ENUMERATED (X.680 20.8).
+    fn item(self, items: &Enumeration) -> Result<Event, NotationError> {
+        let scope = self.base.at.scope;
+        let numbers = numbers_of(self.alloc, self.files, scope, items)?;
+        Ok(Event::Item(item_of(self.files, &numbers, self.value)?))
+    }
+
+    /// A value of BIT STRING (X.680 22.9): a bstring, an hstring, or named bits.
+    fn bits(self, names: &[NamedNumber]) -> Result<Event, NotationError> {
+        let at = settled(self.files, self.value)?;
+        let mut all = Vec::new(self.alloc);
+        match &self.files.value_term(at.scope, at.index)?.kind {
+            ValueKind::Binary(digits) => {
+                for digit in digits {
+                    all.push(*digit == 1)?;
+                }
+            }
+            ValueKind::Hexadecimal(digits) => {
+                for digit in digits {
+                    for weight in [8, 4, 2, 1] {
+                        all.push(digit & weight != 0)?;
+                    }
+                }
+            }
+            ValueKind::List(elements) => {
+                self.set_named(at, elements.as_slice(), names, &mut all)?;
+            }
+            _ => return Err(self.error(Problem::ValueOfOtherType)),
+        }
+        if !names.is_empty() {
+            self.fit(&mut all)?;
+        }
+        let mut bits = BitString::new(self.alloc);
+        for bit in &all {
+            bits.push(*bit)?;
+        }
+        Ok(Event::Bits(bits))
+    }
+
+    /// Sets named bits (X.680 22.10).
+    fn set_named(
+        self,
+        at: ValueUse,
+        elements: &[ListElement],
+        names: &[NamedNumber],
+        bits: &mut Vec<bool>,
+    ) -> Result<(), NotationError> {
+        if elements.is_empty() {
+            return Ok(());
+        }
+        self.fit(bits)?;
+        for element in elements {
+            let bit = ValueUse {
+                scope: at.scope,
+                index: element.value,
+            };
+            let number = integer_of(self.files, self.base.at.scope, names, bit)?;
+            let place = usize::try_from(number).ok();
+            match place.and_then(|place| bits.get_mut(place)) {
+                Some(bit) => *bit = true,
+                None => return Err(bit.error(self.files, Problem::ValueOfOtherType)),
+            }
+        }
+        Ok(())
+    }
+
+    /// Adds zeros to bits, or removes them from their end, up to the fixed size of the type (X.680 22.7).
+    fn fit(self, bits: &mut Vec<bool>) -> Result<(), NotationError> {
+        let Some(size) = self.size else {
+            return Err(self.base.error(Problem::NamedBits));
+        };
+        if size > MOST_BITS {
+            return Err(self.error(Problem::UnsupportedDefault));
+        }
+        let is_longer = bits.iter().skip(size).any(|bit| *bit);
+        if !is_longer {
+            bits.resize(size, false)?;
+        }
+        Ok(())
+    }
+
+    /// A value of OBJECT IDENTIFIER (X.680 32.3).
+    fn arcs(self) -> Result<Event, NotationError> {
+        let arcs = arcs_of(self.alloc, self.files, self.value)?;
+        match ObjectIdentifier::new(CowSlice::Owned(arcs)) {
+            Some(identifier) => Ok(Event::Arcs(identifier)),
+            None => Err(self.error(Problem::ValueOfOtherType)),
+        }
+    }
+
+    /// A value of a character string (X.680 41.8): its characters by their numbers, or its octets in UTF-8.
+    fn text(self, name: StringName) -> Result<Event, NotationError> {
+        let at = settled(self.files, self.value)?;
+        let ValueKind::Text(text) = &self.files.value_term(at.scope, at.index)?.kind else {
+            return Err(self.error(Problem::ValueOfOtherType));
+        };
+        let mut characters = Vec::new(self.alloc);
+        if matches!(name, StringName::Utf8) {
+            characters.extend_from_slice(text.as_slice())?;
+            return Ok(Event::Text(characters));
+        }
+        let Ok(text) = str::from_utf8(text.as_slice()) else {
+            return Err(self.error(Problem::ValueOfOtherType));
+        };
+        for character in text.chars() {
+            match u8::try_from(u32::from(character)) {
+                Ok(number) => characters.push(number)?,
+                Err(_) => return Err(self.error(Problem::UnsupportedDefault)),
+            }
+        }
+        Ok(Event::Text(characters))
+    }
+
+    /// A value of OCTET STRING (X.680 23.3): a bstring or an hstring, with zeros at its end to whole octets.
+    fn octets(self) -> Result<Event, NotationError> {
+        let at = settled(self.files, self.value)?;
+        let mut octets = Vec::new(self.alloc);
+        let (digits, size) = match &self.files.value_term(at.scope, at.index)?.kind {
+            ValueKind::Binary(digits) => (digits.as_slice(), 1_u8),
+            ValueKind::Hexadecimal(digits) => (digits.as_slice(), 4),
+            _ => return Err(self.error(Problem::ValueOfOtherType)),
+        };
+        let count = if size == 1 { 8 } else { 2 };
+        for part in digits.chunks(count) {
+            let mut octet = 0_u8;
+            for index in 0..count {
+                let digit = part.get(index).copied().unwrap_or(0);
+                octet = (octet << size) | digit;
+            }
+            octets.push(octet)?;
+        }
+        Ok(Event::Octets(octets))
+    }
+}

@@ -1,0 +1,17 @@
+use Rattle.std.proofs.Common.{arith}
+use Rattle.asn1_table_extending.proofs.Matched.{begins_itself, begins_more, alternatives_next, alternatives_end, listed_more}
+use Rattle.asn1_table_extending.proofs.alternatives.check_alternatives.Goals as goal
+
+pub loop-index-preserved : goal.loop-index-preserved
+loop-index-preserved c = record {
+  kept = begins_more c.args.pairs.now.items c.loop-index.pairs.items c.add_pair.new.pairs.items c.loop-index.invariant.kept c.in_ok-add_pair.ensures.kept;
+  matched = λ qs b m. c.loop-index.invariant.matched qs (begins_more c.loop-index.pairs.items c.add_pair.new.pairs.items qs c.in_ok-add_pair.ensures.kept b)
+      (alternatives_next qs c.args.may_have_more c.args.older.now c.args.newer.now c.loop-index.index _ _
+      c.loop-index-test.true (omega (arith, c.loop-index-test.true, c.in_ok-check_count.ensures.enough))
+      (c.is_same_tag.ensures c.if-not-is_same_tag.false) (listed_more c.add_pair.new.pairs.items qs _ _ b c.in_ok-add_pair.ensures.listed) m);
+}
+
+pub returns-clause-matches : goal.returns-clause-matches
+returns-clause-matches c =
+    c.loop-index.invariant.matched c.loop-index.pairs.items (begins_itself c.loop-index.pairs.items)
+    (alternatives_end c.loop-index.pairs.items c.args.may_have_more c.args.older.now c.args.newer.now c.loop-index.index c.loop-index-test.false c.in_ok-check_count.ensures.as_many)

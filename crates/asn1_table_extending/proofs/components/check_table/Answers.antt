@@ -1,0 +1,14 @@
+use Rattle.std.proofs.Common.{false}
+use Rattle.asn1_table_extending.proofs.Matched.{components_at, components_listed}
+use Rattle.asn1_table_extending.proofs.components.check_table.Goals as goal
+
+pub returns-clause-matches : goal.returns-clause-matches
+returns-clause-matches c =
+    let ps = c.check_components.new.pairs.items in
+    let qs = c.check_components-2.new.pairs.items in (
+      components_at qs false _ _ c.args.older.now.root.items c.args.newer.now.root.items c.as_slice.ensures.value c.as_slice-2.ensures.value
+          (components_listed ps qs c.in_ok-check_components-2.ensures.kept false _ _ c.in_ok-check_components.ensures.matches),
+      c.is_same_marker.ensures c.if-not-is_same_marker.false,
+      components_at qs c.args.older.now.is_extensible _ _ c.args.older.now.additions.items c.args.newer.now.additions.items
+          c.as_slice-3.ensures.value c.as_slice-4.ensures.value c.in_ok-check_components-2.ensures.matches,
+    )

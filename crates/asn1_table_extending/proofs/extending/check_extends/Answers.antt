@@ -1,0 +1,26 @@
+use Rattle.std.proofs.Common.{arith, subst}
+use Rattle.asn1_table_extending.proofs.Matched.{all_extend, all_match, listed_more, matched_next}
+use Rattle.asn1_table_extending.specs.Matching.{PairMatches}
+use Rattle.asn1_table_extending.proofs.extending.check_extends.Goals as goal
+
+pub loop-next-preserved : goal.loop-next-preserved
+loop-next-preserved c =
+    let ns = c.args.older.now.nodes.items in
+    let ms = c.args.newer.now.nodes.items in
+    let ps = c.loop-next.pairs.items in
+    let qs = c.check_pair.new.pairs.items in
+    let matches = subst (PairMatches ns ms qs) c.index-pair.ensures c.in_ok-check_pair.ensures.matches in
+    record {
+      first = listed_more ps qs c.args.old_place c.args.new_place c.in_ok-check_pair.ensures.kept c.loop-next.invariant.first;
+      matched = matched_next ns ms ps qs c.loop-next.next c.index-pair.result.now c.in_ok-check_pair.ensures.kept (omega (arith, c.loop-next-test.true, c.len.ensures)) c.loop-next.invariant.matched matches;
+    }
+
+pub returns : goal.returns
+returns c =
+    let o = c.args.older.now in
+    let w = c.args.newer.now in
+    let ps = c.loop-next.pairs.items in
+    record {
+      extends = λ n. all_extend o.nodes.items w.nodes.items o.lawful o.tidy w.lawful w.tidy ps
+          (all_match o.nodes.items w.nodes.items ps c.loop-next.next (omega (arith, c.loop-next-test.false, c.len.ensures)) c.loop-next.invariant.matched) n c.args.old_place c.args.new_place c.loop-next.invariant.first;
+    }

@@ -1,0 +1,2 @@
+pub mod Unfolded
+pub mod Known
