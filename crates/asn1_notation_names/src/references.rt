@@ -97,7 +97,7 @@ fn instance_of(
     let mut keys = Vec::new(files.alloc);
     keys.push(Key::Definition(symbol))?;
     for (parameter, actual) in parameters.iter().zip(&reference.parameters) {
-        let one = match class_of(files, symbol.scope, parameter)? {
+        let one = match class_of(files, symbol.scope, parameters, parameter)? {
             Some(_) => objects_by(scope, place, parameter, actual)?,
             None => given_by(files, scope, place, parameter, actual)?,
         };
@@ -142,17 +142,19 @@ fn type_key(
     Err(start.error(files, Problem::Circular))
 }
 
-/// The class that governs a parameter of an assignment in a module, if one does (X.683 8.3).
+/// The class that governs a parameter of an assignment in a module, if one does (X.683 8.3). A governor that is a
+/// parameter of the assignment itself is a type.
 fn class_of(
     files: &Files<'_, '_>,
     scope: Scope,
+    parameters: &[Parameter],
     parameter: &Parameter,
 ) -> Result<Option<Symbol>, NotationError> {
     let Some(index) = parameter.governor else {
         return Ok(None);
     };
     match &files.type_term(TypeUse { scope, index })?.kind {
-        TypeKind::Reference(reference) => class_named(
+        TypeKind::Reference(reference) if !is_parameter(parameters, reference) => class_named(
             files,
             scope,
             reference,
@@ -160,6 +162,15 @@ fn class_of(
         ),
         _ => Ok(None),
     }
+}
+
+/// Whether a reference is to one of the parameters of the assignment around it (X.683 8.4).
+fn is_parameter(parameters: &[Parameter], reference: &Reference) -> bool {
+    let name = reference.name.text.as_str();
+    reference.module.is_none()
+        && parameters
+            .iter()
+            .any(|parameter| parameter.name.text.as_str() == name)
 }
 
 /// What is given for a parameter that a class governs: objects in braces, or the name of an object if the parameter has

@@ -74,8 +74,8 @@ const ROWS: [(&str, &str, Difference); 21] = [
         Difference::ComponentAdded,
     ),
     (
-        "T ::= SEQUENCE {a [1] NULL}",
-        "T ::= SEQUENCE {a [2] NULL}",
+        "T ::= SET {a [1] NULL}",
+        "T ::= SET {a [2] NULL}",
         Difference::ComponentTags,
     ),
     (
