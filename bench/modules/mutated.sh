@@ -1,7 +1,7 @@
 #!/bin/sh
-# bench/modules/mutated.sh COUNT [FIRST] [FOLDER]: COUNT mutants of the wrong modules of asn1_notation_refusals, from number
-# FIRST on, are read, and the table of their type T is made and printed. It fails if one takes more than its share of the
-# time, or ends the program. It runs unproved code (rt try).
+# bench/modules/mutated.sh COUNT [FIRST] [FOLDER]: COUNT mutants of the wrong modules of asn1_notation_refusals, from
+# number FIRST on, are read, and the table of their type T is made and printed. It fails if one takes more than its share
+# of the time, or ends the program. It runs unproved code (rt try).
 here=$(cd "$(dirname "$0")/.." && pwd)
 count=$1
 first=${2:-0}

@@ -1,10 +1,10 @@
 #!/bin/sh
-# bench/modules/pages.sh PROGRAM PAGE..: the messages of pages go through the built program asn1_relay: from their own rules
-# to each of the others and to JSON, and from there back. It prints a line for each message whose octets differ then, and
-# how many there were, and ends with an error if octets differ.
+# bench/modules/pages.sh PROGRAM PAGE..: the messages of pages go through the built program asn1_relay: from their own
+# rules to each of the others and to JSON, and from there back. It prints a line for each message whose octets differ
+# then, and how many there were, and ends with an error if octets differ.
 #
-# A page in Markdown has `- rules: RULES`, the text of a module in a block of `asn1`, and for each message `- type: TYPE`
-# and `- octets: DIGITS`. Another page has a line RULES | MODULE | TYPE | DIGITS for each message, and the file
+# A page in Markdown has `- rules: RULES`, the text of a module in a block of `asn1`, and for each message
+# `- type: TYPE` and `- octets: DIGITS`. Another page has a line RULES | MODULE | TYPE | DIGITS for each message, and the file
 # modules/MODULE.asn beside it.
 program=$1
 shift

@@ -3,7 +3,6 @@ use Rattle.std.specs.Prelude.{◌≡◌, ◌≢◌, ℕ, List, [], ◌∷◌, �
 use Rattle.std.specs.Io.KnownBytes.{Appends, Keeps}
 use Rattle.asn1_model.specs.Schema.{Schema}
 use Rattle.asn1_relay_command.specs.Runs.{BecomesAs, IsAllRead, IsRefusedAs, Known}
-use Rattle.asn1_relay_command.specs.declared.fault.Fault.{Fault}
 use Rattle.asn1_relay_command.specs.declared.fault.Fault.TheVariants as fault
 use Rattle.asn1_relay_core.specs.Ends.{BeginsToAppend}
 use Rattle.asn1_relay_core.specs.Recoding.{answered}

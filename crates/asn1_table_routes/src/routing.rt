@@ -12,8 +12,8 @@ use asn1_relay_core::{Codec, Hop, RouteFault, RouteFaultKind, Version};
 use asn1_table_relay::recode_by;
 use std::alloc::Global;
 
-/// Sends a message from hop to hop, as `route` of `asn1_relay_core` does, where a hop uses one of two types of tables of
-/// which one is a newer version of the other (`Versions::new`). What is said there holds here.
+/// Sends a message from hop to hop, as `route` of `asn1_relay_core` does, where a hop uses one of two types of tables,
+/// of which one is a newer version of the other (`Versions::new`). What is said there holds here.
 ///
 /// # Errors
 ///

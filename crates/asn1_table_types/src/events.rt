@@ -37,7 +37,7 @@ pub enum DefaultValue {
     SetOf(Vec<DefaultValue>),
     /// A CHOICE (X.680 29), by the chosen alternative and its value.
     Choice(Chosen, Box<DefaultValue>),
-    /// A SEQUENCE or SET (X.680 25 and 27), by its root components and its additions, present or absent, in the order of
-    /// the type; of a group of additions, its components are the first, and there are no second ones.
+    /// A SEQUENCE or SET (X.680 25 and 27), by its root components and its additions, present or absent, in the order
+    /// of the type. Of a group of additions, its components are the first, and there are no second ones.
     Components(Vec<Option<DefaultValue>>, Vec<Option<DefaultValue>>),
 }
