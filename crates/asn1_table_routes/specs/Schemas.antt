@@ -1,7 +1,7 @@
 -- The types of two versions, unfolded to a number of levels.
 use Rattle.std.specs.Prelude.{ℕ}
 use Rattle.asn1_model.specs.Schema.{Schema}
-use Rattle.asn1_table_types.specs.Meaning.{type_at}
+use Rattle.asn1_table_nodes.specs.Meaning.{type_at}
 use Rattle.asn1_table_routes.specs.declared.versions.Versions.{Versions}
 
 abbrev pub older_of : Versions → ℕ → Schema

@@ -1,7 +1,7 @@
 //! Two versions of a type, of a table each.
 ghost use Rattle.std.specs.Prelude.{◌≡◌, ℕ, IfOk};
 ghost use Rattle.asn1_model.specs.Versions.{Extends};
-ghost use Rattle.asn1_table_types.specs.Meaning.{type_at};
+ghost use Rattle.asn1_table_nodes.specs.Meaning.{type_at};
 
 use asn1_table_extending::{ExtendingError, check_extends};
 use asn1_table_types::Types;
