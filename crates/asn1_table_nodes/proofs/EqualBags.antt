@@ -3,7 +3,7 @@ use Rattle.std.proofs.Common.{◌≡◌, ◌∙◌, refl, sym, ap, ℕ, zero, su
 use Rattle.std.proofs.lemmas.Bool.{and_parts, and_from, eqb-true, eq-eqb}
 use Rattle.std.proofs.Math.Bool.{and-false}
 use Rattle.asn1_model.specs.Value.{members, bag, fields, chosen, same_truth}
-use Rattle.asn1_model.specs.Value.{Value, Values, no_more, member, values_of, are_all, same, same_bag, same_members, same_parts, Parts, end, absent, present, depth, depth_of_members}
+use Rattle.asn1_model.specs.Value.{Value, Values, no_more, member, values_of, are_all, same, same_bag, same_members, same_parts, Parts, end, depth, depth_of_members}
 use Rattle.asn1_laws_values.proofs.Bags.{counted_same}
 use Rattle.asn1_laws_values.proofs.Counts.{count, one_if, both_true, counts_alike}
 use Rattle.asn1_laws_values.proofs.Same.{same_self, same_turned, same_chained, below}

@@ -1,5 +1,5 @@
 -- The values of defaults, by what they are.
-use Rattle.std.proofs.Common.{◌≡◌, ◌∙◌, refl, sym, ap, subst, ℕ, ◌+◌, ◌<◌, ◌≤◌, Bool, true, false, List, [], ◌∷◌, Option, Some, None, map, drop, get_or, length}
+use Rattle.std.proofs.Common.{◌≡◌, ◌∙◌, refl, sym, ap, subst, ℕ, ◌+◌, ◌<◌, ◌≤◌, Bool, false, List, [], ◌∷◌, Option, Some, None, map, drop, get_or, length}
 use Rattle.std.proofs.lemmas.List.{drop_more, drop_all}
 use Rattle.asn1_model.specs.Value.{Value, truth, nothing, number, item, bit_list, octet_list, text, arcs, members, bag, chosen, fields, Values, no_more, member, values_of, Parts, end, absent, present, same}
 use Rattle.asn1_table_nodes.specs.declared.events.DefaultValue.{DefaultValue}

@@ -3,7 +3,6 @@
 
 ghost use Rattle.std.specs.Prelude.{◌≡◌, ℕ, true, false, ◌++◌, ◌||◌, ◌&&◌, IfOk, IfErr, OnOk, map};
 ghost use Rattle.asn1_model.specs.Lawful.{are_distinct, are_ascending, tag_same, tag_less, begins_with, is_empty};
-ghost use Rattle.asn1_model.specs.Lawful.{is_group};
 ghost use Rattle.asn1_model.specs.Schema.{Schema, group};
 ghost use Rattle.asn1_schema_tags.specs.Tags.{tag_of};
 ghost use Rattle.asn1_table_types.specs.Flaws.{is_in_place, is_component, are_components, is_table, is_set_table};

@@ -3,7 +3,7 @@ use Rattle.std.specs.Option.{option_copied, option_map, option_map_or}
 use Rattle.asn1_table_nodes.specs.declared.nodes.Alternative.{Alternative}
 use Rattle.std.proofs.lemmas.Bool.{ltb-false}
 use Rattle.std.proofs.lemmas.Option.{slice_get_read}
-use Rattle.asn1_model.specs.Value.{members, bag, values_of}
+use Rattle.asn1_model.specs.Value.{values_of}
 use Rattle.asn1_table_nodes.specs.declared.events.DefaultValue.{DefaultValue}
 use Rattle.asn1_table_nodes.specs.declared.events.DefaultValue.TheVariants.{Components}
 use Rattle.asn1_table_nodes.specs.declared.nodes.Component.{Component}

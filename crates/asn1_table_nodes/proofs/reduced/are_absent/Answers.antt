@@ -1,6 +1,5 @@
-use Rattle.std.proofs.Common.{◌∙◌, sym, ap, map, ◌+◌, drop, arith}
+use Rattle.std.proofs.Common.{◌∙◌, sym, ap, arith}
 use Rattle.asn1_model.specs.Value.{are_absent}
-use Rattle.asn1_table_nodes.specs.Values.{part_of, parts_of}
 use Rattle.asn1_table_nodes.proofs.ReducedSteps.{one_there, none_there}
 use Rattle.asn1_table_nodes.proofs.Values.{parts_end}
 use Rattle.asn1_table_nodes.proofs.reduced.are_absent.Goals as goal

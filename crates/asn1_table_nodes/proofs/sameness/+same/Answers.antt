@@ -1,6 +1,6 @@
-use Rattle.std.proofs.Common.{◌≡◌, ◌∙◌, refl, sym, ap, ◌+◌, ◌==◌, ◌&&◌, ◌||◌, true, false, not, cond, ◌⊎◌, inl, inr, List, Option, Some, None, map, drop, length, arith}
+use Rattle.std.proofs.Common.{◌≡◌, ◌∙◌, refl, sym, ap, ◌+◌, ◌&&◌, ◌||◌, true, false, ◌⊎◌, inl, inr, Some, map, drop, length, arith}
 use Rattle.std.proofs.lemmas.Bool.{eq-eqb}
-use Rattle.asn1_laws_values.proofs.Counts.{count, one_if}
+use Rattle.asn1_laws_values.proofs.Counts.{count}
 use Rattle.asn1_model.specs.Value.{are_all, same, same_bag, same_members, same_parts, values_of}
 use Rattle.asn1_table_nodes.specs.Sameness.{is_among, is_same_part}
 use Rattle.asn1_table_nodes.specs.Values.{part_of, parts_of, value_of}

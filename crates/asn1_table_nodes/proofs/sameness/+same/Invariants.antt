@@ -1,4 +1,4 @@
-use Rattle.std.proofs.Common.{◌≡◌, ◌+◌, ◌≤◌, ◌||◌, drop, length, map}
+use Rattle.std.proofs.Common.{◌≡◌, ◌+◌, ◌≤◌, drop, length, map}
 use Rattle.asn1_laws_values.proofs.Counts.{count}
 use Rattle.asn1_model.specs.Value.{are_all, same, same_members, same_parts, values_of}
 use Rattle.asn1_table_nodes.specs.Sameness.{is_among}
