@@ -1,5 +1,7 @@
 use Rattle.std.proofs.Common.{false}
 use Rattle.asn1_table_extending.proofs.Matched.{alternatives_at, alternatives_listed}
+use Rattle.asn1_table_extending.proofs.Refused.{raised_more}
+use Rattle.asn1_table_extending.specs.Differing.{AlternativesDiffer, ChoicesDiffer}
 use Rattle.asn1_table_extending.proofs.alternatives.check_choice.Goals as goal
 
 pub returns-clause-matches : goal.returns-clause-matches
@@ -8,7 +10,7 @@ returns-clause-matches c =
     let qs = c.check_alternatives-2.new.pairs.items in (
       alternatives_at qs false _ _ c.args.older.now.root.items c.args.newer.now.root.items c.as_slice.ensures.value c.as_slice-2.ensures.value
           (alternatives_listed ps qs c.in_ok-check_alternatives-2.ensures.kept false _ _ c.in_ok-check_alternatives.ensures.matches),
-      c.is_same_marker.ensures c.if-not-is_same_marker.false,
+      c.is_same_marker.ensures.0 c.if-not-is_same_marker.false,
       alternatives_at qs c.args.older.now.is_extensible _ _ c.args.older.now.additions.items c.args.newer.now.additions.items
           c.as_slice-3.ensures.value c.as_slice-4.ensures.value c.in_ok-check_alternatives-2.ensures.matches,
     )

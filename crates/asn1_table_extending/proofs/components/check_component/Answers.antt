@@ -9,6 +9,6 @@ all_at xs ys us vs e f h =
     let Q : List Tag → Type 0 = λ zs. All (Contains zs) us in
     subst Q f (subst P e h)
 
-pub returns : goal.returns
-returns c =
-    on_ok c.check_presence.result c.check_presence.ensures (λ p. (all_at _ _ c.args.older.now.tags.items c.args.newer.now.tags.items c.as_slice.ensures.value c.as_slice-2.ensures.value (c.are_among.ensures c.if-not-are_among.false), p))
+pub returns-clause-matches : goal.returns-clause-matches
+returns-clause-matches c =
+    on_ok c.check_presence.result c.check_presence.ensures.matches (λ p. (all_at _ _ c.args.older.now.tags.items c.args.newer.now.tags.items c.as_slice.ensures.value c.as_slice-2.ensures.value (c.are_among.ensures.0 c.if-not-are_among.false), p))

@@ -8,7 +8,7 @@ returns-clause-matches c =
     let qs = c.check_components-2.new.pairs.items in (
       components_at qs false _ _ c.args.older.now.root.items c.args.newer.now.root.items c.as_slice.ensures.value c.as_slice-2.ensures.value
           (components_listed ps qs c.in_ok-check_components-2.ensures.kept false _ _ c.in_ok-check_components.ensures.matches),
-      c.is_same_marker.ensures c.if-not-is_same_marker.false,
+      c.is_same_marker.ensures.0 c.if-not-is_same_marker.false,
       components_at qs c.args.older.now.is_extensible _ _ c.args.older.now.additions.items c.args.newer.now.additions.items
           c.as_slice-3.ensures.value c.as_slice-4.ensures.value c.in_ok-check_components-2.ensures.matches,
     )
