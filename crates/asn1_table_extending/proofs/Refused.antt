@@ -3,16 +3,16 @@ use Rattle.std.proofs.Common.{◌≡◌, ℕ, zero, suc, ◌+◌, ◌<◌, ◌�
 use Rattle.std.proofs.Common.{Option, Some, None, slice_get, refl, sym, subst, Result, Ok, Err, arith}
 use Rattle.std.specs.Result.{IfErr, IsErrAnd}
 use Rattle.std.proofs.lemmas.Option.{slice_get-get_or, slice_get_read}
-use Rattle.asn1_table_types.specs.declared.nodes.Alternative.{Alternative}
-use Rattle.asn1_table_types.specs.declared.nodes.AlternativeTable.{AlternativeTable}
-use Rattle.asn1_table_types.specs.declared.nodes.Component.{Component}
-use Rattle.asn1_table_types.specs.declared.nodes.ComponentTable.{ComponentTable}
-use Rattle.asn1_table_types.specs.declared.nodes.ItemTable.{ItemTable}
-use Rattle.asn1_table_types.specs.declared.nodes.Presence.{Presence}
-use Rattle.asn1_table_types.specs.declared.nodes.Presence.TheVariants.{Default}
-use Rattle.asn1_table_types.specs.declared.nodes.StringTable.{StringTable}
-use Rattle.asn1_table_types.specs.declared.nodes.TypeNode.{TypeNode}
-use Rattle.asn1_table_types.specs.declared.nodes.TypeNode.TheVariants as node
+use Rattle.asn1_table_nodes.specs.declared.nodes.Alternative.{Alternative}
+use Rattle.asn1_table_nodes.specs.declared.nodes.AlternativeTable.{AlternativeTable}
+use Rattle.asn1_table_nodes.specs.declared.nodes.Component.{Component}
+use Rattle.asn1_table_nodes.specs.declared.nodes.ComponentTable.{ComponentTable}
+use Rattle.asn1_table_nodes.specs.declared.nodes.ItemTable.{ItemTable}
+use Rattle.asn1_table_nodes.specs.declared.nodes.Presence.{Presence}
+use Rattle.asn1_table_nodes.specs.declared.nodes.Presence.TheVariants.{Default}
+use Rattle.asn1_table_nodes.specs.declared.nodes.StringTable.{StringTable}
+use Rattle.asn1_table_nodes.specs.declared.nodes.TypeNode.{TypeNode}
+use Rattle.asn1_table_nodes.specs.declared.nodes.TypeNode.TheVariants as node
 use Rattle.asn1_table_extending.specs.Matching.{AlternativesMatch, BothMatch, ChoicesMatch, ComponentMatches, ComponentsMatch, ItemsMatch, NodesMatch, PresencesMatch, StringsMatch, TablesMatch}
 use Rattle.asn1_table_extending.specs.Differing.{AlternativeDiffers, AlternativesDiffer, AtSame, BothDiffer, ChoicesDiffer, ComponentDiffers, ComponentsDiffer, CountsDiffer, IsDue, ItemsDiffer, PresencesDiffer, StringsDiffer, TablesDiffer}
 use Rattle.asn1_table_extending.specs.declared.differences.Difference.{Difference}
