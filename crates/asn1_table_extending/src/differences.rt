@@ -1,5 +1,6 @@
 //! Why a type is no newer version of another.
 ghost use Rattle.std.specs.Prelude.{◌≡◌};
+ghost use Rattle.asn1_table_extending.specs.declared.differences.Fault.TheVariants.{Differs, NoMemory};
 
 use std::alloc::AllocError;
 use thiserror::Error;
