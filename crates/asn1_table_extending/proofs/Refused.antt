@@ -1,7 +1,8 @@
 -- Types that differ do not match, and what a check refuses it refuses for that.
 use Rattle.std.proofs.Common.{◌≡◌, ℕ, zero, suc, ◌+◌, ◌<◌, ◌≤◌, ◌⊎◌, inl, inr, Bool, true, false, List, [], ◌∷◌, length, get_or}
-use Rattle.std.proofs.Common.{Option, Some, None, slice_get, refl, sym, subst, Result, Ok, Err, arith}
+use Rattle.std.proofs.Common.{Option, Some, None, slice_get, refl, sym, ◌∙◌, subst, Result, Ok, Err, arith}
 use Rattle.std.specs.Result.{IfErr, IsErrAnd}
+use Rattle.std.proofs.lemmas.Bool.{false≢true}
 use Rattle.std.proofs.lemmas.Option.{slice_get-get_or, slice_get_read}
 use Rattle.asn1_table_nodes.specs.declared.nodes.Alternative.{Alternative}
 use Rattle.asn1_table_nodes.specs.declared.nodes.AlternativeTable.{AlternativeTable}
@@ -14,10 +15,13 @@ use Rattle.asn1_table_nodes.specs.declared.nodes.StringTable.{StringTable}
 use Rattle.asn1_table_nodes.specs.declared.nodes.TypeNode.{TypeNode}
 use Rattle.asn1_table_nodes.specs.declared.nodes.TypeNode.TheVariants as node
 use Rattle.asn1_table_extending.specs.Matching.{AlternativesMatch, BothMatch, ChoicesMatch, ComponentMatches, ComponentsMatch, ItemsMatch, NodesMatch, PresencesMatch, StringsMatch, TablesMatch}
-use Rattle.asn1_table_extending.specs.Differing.{AlternativeDiffers, AlternativesDiffer, AtSame, BothDiffer, ChoicesDiffer, ComponentDiffers, ComponentsDiffer, CountsDiffer, IsDue, ItemsDiffer, PresencesDiffer, StringsDiffer, TablesDiffer}
+use Rattle.asn1_table_extending.specs.Differing.{AlternativeDiffers, AlternativesDiffer, AtSame, BothDiffer, ChoicesDiffer, ComponentDiffers, ComponentsDiffer, CountsDiffer, IsDue, IsRefused, IsRefusedAt, ItemsDiffer, PresencesDiffer, StringsDiffer, TablesDiffer, error_of}
 use Rattle.asn1_table_extending.specs.declared.differences.Difference.{Difference}
+use Rattle.asn1_table_extending.specs.declared.differences.ExtendingError.{ExtendingError}
+use Rattle.asn1_table_extending.specs.declared.differences.ExtendingError.TheVariants.{NotExtended, OutOfMemory}
 use Rattle.asn1_table_extending.specs.declared.differences.Fault.{Fault}
 use Rattle.asn1_table_extending.specs.declared.differences.Fault.TheVariants.{Differs, NoMemory}
+use Rattle.asn1_table_extending.specs.declared.pairs.Pair.{Pair}
 
 -- ---- what differs does not match
 some_is : {X : Type 0} {x y : X} → Some x ≡ Some y → x ≡ y
@@ -131,6 +135,23 @@ same_index P xs ys k x y l e j f p = (k, x, y, slice_get_read xs (length xs) k x
 pub read_index : {X : Type 0} (P : X → X → Type 0) (xs ys : List X) (k : ℕ) (x y : X) → k < length xs → k < length ys → P (get_or xs k x) (get_or ys k y) → AtSame P xs ys
 read_index P xs ys k x y l j p = (k, get_or xs k x, get_or ys k y, slice_get-get_or xs k x l, slice_get-get_or ys k y j, p)
 
+-- ---- a test that failed
+pub untrue : {P : Type 0} (b : Bool) → (P → b ≡ true) → b ≡ false → P → ⊥
+untrue b f e p = false≢true (sym e ∙ f p)
+
+-- ---- at equal lists
+pub components_differ_at : (d : Difference) (more : Bool) (xs ys us vs : List Component) → xs ≡ us → ys ≡ vs → ComponentsDiffer d more xs ys → ComponentsDiffer d more us vs
+components_differ_at d more xs ys us vs e f m =
+    let P : List Component → Type 0 = λ zs. ComponentsDiffer d more zs ys in
+    let Q : List Component → Type 0 = λ zs. ComponentsDiffer d more us zs in
+    subst Q f (subst P e m)
+
+pub alternatives_differ_at : (d : Difference) (more : Bool) (xs ys us vs : List Alternative) → xs ≡ us → ys ≡ vs → AlternativesDiffer d more xs ys → AlternativesDiffer d more us vs
+alternatives_differ_at d more xs ys us vs e f m =
+    let P : List Alternative → Type 0 = λ zs. AlternativesDiffer d more zs ys in
+    let Q : List Alternative → Type 0 = λ zs. AlternativesDiffer d more us zs in
+    subst Q f (subst P e m)
+
 -- ---- refusals that are passed on
 pub raised : {T : Type 0} (P : Difference → Type 0) (d : Difference) (r : Result T Fault) → IsErrAnd r (λ f. f ≡ Differs d) → P d → IfErr r (λ f. IsDue P f)
 raised P d (Ok v) h p = absurd h
@@ -146,3 +167,16 @@ raised_more P Q f (Err g) k h p = go g (let D : Fault → Type 0 = λ z. IsDue P
   go : (g : Fault) → IsDue P g → IsDue Q g
   go (Differs d) p = k d p
   go NoMemory p = tt
+
+-- ---- the error of a pair
+pub refused_of : (ns ms : List TypeNode) (p : Pair) (f : Fault) → IsDue (λ d. BothDiffer d (slice_get ns p.older) (slice_get ms p.newer)) f → IsRefusedAt ns ms p (error_of p f)
+refused_of ns ms p (Differs d) h =
+    (refl, refl, record { unmatched = λ m. both_clash (λ i j. Unit {0}) d (slice_get ns p.older) (slice_get ms p.newer) h m; told = h })
+refused_of ns ms p NoMemory h = tt
+
+pub refused_passed : {T : Type 0} (ns ms : List TypeNode) (p : Pair) (e : ExtendingError) (r : Result T ExtendingError) → IsErrAnd r (λ y. y ≡ e) → IsRefusedAt ns ms p e → IfErr r (λ y. IsRefused ns ms y)
+refused_passed ns ms p e (Ok v) h m = absurd h
+refused_passed ns ms p e (Err y) h m = go y (subst (IsRefusedAt ns ms p) (sym h) m) where
+  go : (y : ExtendingError) → IsRefusedAt ns ms p y → IsRefused ns ms y
+  go (NotExtended newer older d) m = m.2
+  go OutOfMemory m = tt

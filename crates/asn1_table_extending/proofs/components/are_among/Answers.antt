@@ -1,4 +1,5 @@
-use Rattle.std.proofs.Common.{◌≡◌, List, All, Contains, refl, subst}
+use Rattle.std.proofs.Common.{◌∙◌, List, All, Contains, refl, subst, sym}
+use Rattle.std.proofs.lemmas.Bool.{false≢true}
 use Rattle.std.proofs.lemmas.List.{take_all}
 use Rattle.std.proofs.lemmas.List.Elements.{All-get_or, All-more}
 use Rattle.asn1_schema_tags.specs.declared.tags.Tag.{Tag}
@@ -9,7 +10,10 @@ loop-tag-preserved c =
     All-more (Contains c.args.others.now) c.args.tags.now c.loop-tag.tag-index _ c.loop-tag-test.true c.loop-tag.invariant (c.is_among.ensures.0 c.if-not-is_among.false)
 
 pub returns-then-not-is_among : goal.returns-then-not-is_among
-returns-then-not-is_among c = ?
+returns-then-not-is_among c = (
+  λ h. absurd (false≢true h),
+  λ a. absurd (false≢true (sym c.if-not-is_among.true ∙ c.is_among.ensures.1 (All-get_or (Contains c.args.others.now) c.args.tags.now c.loop-tag.tag-index _ c.loop-tag-test.true a))),
+)
 
 pub returns : goal.returns
 returns c =
