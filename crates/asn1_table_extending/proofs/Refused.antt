@@ -168,6 +168,10 @@ raised_more P Q f (Err g) k h p = go g (let D : Fault → Type 0 = λ z. IsDue P
   go (Differs d) p = k d p
   go NoMemory p = tt
 
+pub raised_as : {T : Type 0} (P Q : Difference → Type 0) (d : Difference) (r : Result T Difference) → ((d : Difference) → P d → Q d) → IsErrAnd r (λ e. e ≡ d) → P d → IfErr r (λ e. Q e)
+raised_as P Q d (Ok v) k h p = absurd h
+raised_as P Q d (Err e) k h p = subst Q (sym h) (k d p)
+
 -- ---- the error of a pair
 pub refused_of : (ns ms : List TypeNode) (p : Pair) (f : Fault) → IsDue (λ d. BothDiffer d (slice_get ns p.older) (slice_get ms p.newer)) f → IsRefusedAt ns ms p (error_of p f)
 refused_of ns ms p (Differs d) h =

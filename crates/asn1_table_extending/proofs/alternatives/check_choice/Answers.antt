@@ -1,6 +1,6 @@
-use Rattle.std.proofs.Common.{false, inl, inr}
+use Rattle.std.proofs.Common.{false, inl, inr, refl}
 use Rattle.asn1_table_extending.proofs.Matched.{alternatives_at, alternatives_listed}
-use Rattle.asn1_table_extending.proofs.Refused.{alternatives_differ_at, raised_more}
+use Rattle.asn1_table_extending.proofs.Refused.{alternatives_differ_at, raised_more, untrue}
 use Rattle.asn1_table_extending.specs.Differing.{AlternativesDiffer, ChoicesDiffer}
 use Rattle.asn1_table_extending.proofs.alternatives.check_choice.Goals as goal
 
@@ -26,3 +26,6 @@ returns-in_err-check_alternatives-2-clause-refused c =
     raised_more (λ d. AlternativesDiffer d c.args.older.now.is_extensible c.as_slice-3.result.now c.as_slice-4.result.now) (λ d. ChoicesDiffer d c.args.older.now c.args.newer.now) _ _
     (λ d h. inr (inr (alternatives_differ_at d c.args.older.now.is_extensible _ _ c.args.older.now.additions.items c.args.newer.now.additions.items c.as_slice-3.ensures.value c.as_slice-4.ensures.value h)))
     c.from_residual-in_err-check_alternatives-2.ensures.1 c.in_err-check_alternatives-2.ensures.refused
+
+pub returns-then-not-is_same_marker-clause-refused : goal.returns-then-not-is_same_marker-clause-refused
+returns-then-not-is_same_marker-clause-refused c = inr (inl (refl, λ e. untrue _ c.is_same_marker.ensures.1 c.if-not-is_same_marker.true e))

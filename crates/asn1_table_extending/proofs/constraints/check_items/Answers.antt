@@ -22,3 +22,6 @@ returns-then-not-begins_with-clause-refused c =
       λ b. untrue _ c.begins_with.ensures.1 c.if-not-begins_with.true
           (begins_at c.args.older.now.additions.items c.args.newer.now.additions.items _ _ (sym c.as_slice-4.ensures.value) (sym c.as_slice-3.ensures.value) b),
     ))
+
+pub returns-then-not-is_same_marker-clause-refused : goal.returns-then-not-is_same_marker-clause-refused
+returns-then-not-is_same_marker-clause-refused c = inr (inl (refl, λ e. untrue _ c.is_same_marker.ensures.1 c.if-not-is_same_marker.true e))
