@@ -168,6 +168,11 @@ raised_more P Q f (Err g) k h p = go g (let D : Fault → Type 0 = λ z. IsDue P
   go (Differs d) p = k d p
   go NoMemory p = tt
 
+pub due_more : {T : Type 0} (P Q : Difference → Type 0) (r : Result T Fault) → ((d : Difference) → P d → Q d) → IfErr r (λ f. IsDue P f) → IfErr r (λ f. IsDue Q f)
+due_more P Q (Ok v) k h = h
+due_more P Q (Err (Differs d)) k h = k d h
+due_more P Q (Err NoMemory) k h = h
+
 pub raised_as : {T : Type 0} (P Q : Difference → Type 0) (d : Difference) (r : Result T Difference) → ((d : Difference) → P d → Q d) → IsErrAnd r (λ e. e ≡ d) → P d → IfErr r (λ e. Q e)
 raised_as P Q d (Ok v) k h p = absurd h
 raised_as P Q d (Err e) k h p = subst Q (sym h) (k d p)

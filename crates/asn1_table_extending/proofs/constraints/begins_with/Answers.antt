@@ -12,4 +12,4 @@ returns c =
 
 pub returns-then-first-items : goal.returns-then-first-items
 returns-then-first-items c =
-    (λ h. absurd (false≢true h), λ b. absurd (omega (arith, begins_length c.args.first.now c.args.items.now b, c.len.ensures)))
+    (λ h. absurd (false≢true h), λ b. absurd (omega (arith, begins_length c.args.first.now c.args.items.now b, c.if-first-items.true)))
