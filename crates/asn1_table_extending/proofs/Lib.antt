@@ -1,2 +1,3 @@
 pub mod Staying
 pub mod Matched
+pub mod Refused

@@ -3,7 +3,7 @@ use Rattle.std.proofs.Common.{◌≡◌, ℕ, zero, suc, ◌+◌, ◌<◌, ◌�
 use Rattle.std.proofs.Common.{Option, Some, None, All, Contains, slice_get, refl, ap, sym, ◌∙◌, subst, append_assoc, length-append, Result, Ok, Err, OnOk, arith}
 use Rattle.std.proofs.lemmas.Bool.{and_parts, cases_lt, false≢true}
 use Rattle.std.proofs.lemmas.Option.{slice_get-get_or}
-use Rattle.std.proofs.lemmas.List.{length-map, drop_more, drop_all, append-nil, take-append-drop}
+use Rattle.std.proofs.lemmas.List.{length-map, drop_more, drop_all, append-nil, take_all, take-append-drop, take-append-le}
 use Rattle.std.proofs.lemmas.List.Elements.{All-map, Contains-append_left}
 use Rattle.std.proofs.Math.ListN.{get_or-map, get_or-append}
 use Rattle.asn1_model.specs.Value.{Value, same}
@@ -263,6 +263,14 @@ begins_at xs ys us vs e f b = (b.0, ap (λ zs. zs ++ b.0) (sym e) ∙ b.1 ∙ f)
 
 pub begins_by : {X : Type 0} (xs ys : List X) (k : ℕ) → take k ys ≡ xs → Begins xs ys
 begins_by xs ys k e = (drop k ys, ap (λ zs. zs ++ drop k ys) (sym e) ∙ take-append-drop k ys)
+
+pub begins_length : {X : Type 0} (xs ys : List X) → Begins xs ys → length xs ≤ length ys
+begins_length xs ys b = omega (arith, length-append xs b.0, ap length b.1)
+
+pub begun_by : {X : Type 0} (xs ys : List X) → Begins xs ys → take (length xs) ys ≡ xs
+begun_by xs ys b =
+    let l : length xs ≤ length xs = omega arith in
+    ap (λ zs. take (length xs) zs) (sym b.1) ∙ take-append-le (length xs) xs b.0 l ∙ take_all (length xs) xs l
 
 -- ---- one more pair
 same_place : (ps zs : List Pair) (k : ℕ) (d : Pair) → k < length ps → slice_get (ps ++ zs) k ≡ slice_get ps k

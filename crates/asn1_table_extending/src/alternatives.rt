@@ -1,6 +1,7 @@
 //! Whether the alternatives of a CHOICE are those of a newer version (X.680 29).
-ghost use Rattle.std.specs.Prelude.{OnOk};
+ghost use Rattle.std.specs.Prelude.{IfErr, OnOk};
 ghost use Rattle.asn1_model.specs.Versions.{Begins};
+ghost use Rattle.asn1_table_extending.specs.Differing.{AlternativesDiffer, ChoicesDiffer, IsDue};
 ghost use Rattle.asn1_table_extending.specs.Matching.{AlternativesMatch, ChoicesMatch, IsListed};
 
 use crate::Difference;
@@ -18,6 +19,7 @@ pub fn check_choice(
     pairs: &mut Vec<Pair>,
 ) -> Result<(), Fault>
     ensures matches { OnOk result (ChoicesMatch (IsListed pairs.new.items) older.now newer.now) }
+    ensures refused { IfErr result (IsDue (λ d. ChoicesDiffer d older.now newer.now)) }
     ensures kept { OnOk result (Begins pairs.old.items pairs.new.items) }
 {
     check_alternatives(older.root.as_slice(), newer.root.as_slice(), false, pairs)?;
@@ -42,6 +44,7 @@ fn check_alternatives(
     pairs: &mut Vec<Pair>,
 ) -> Result<(), Fault>
     ensures matches { OnOk result (AlternativesMatch (IsListed pairs.new.items) may_have_more older.now newer.now) }
+    ensures refused { IfErr result (IsDue (λ d. AlternativesDiffer d may_have_more older.now newer.now)) }
     ensures kept { OnOk result (Begins pairs.old.items pairs.new.items) }
 {
     check_count(

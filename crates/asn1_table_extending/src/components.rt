@@ -1,6 +1,8 @@
 //! Whether the components of a SEQUENCE, a SET or a group of additions are those of a newer version (X.680 25 and 27).
-ghost use Rattle.std.specs.Prelude.{◌≡◌, All, Contains, IsTrue, OnOk, ◌≤◌, ◌⊎◌};
+ghost use Rattle.std.specs.Prelude.{◌≡◌, ◌↔◌, All, Contains, IfErr, IsTrue, OnOk, false, ◌≤◌, ◌⊎◌};
 ghost use Rattle.asn1_model.specs.Versions.{Begins};
+ghost use Rattle.asn1_table_extending.specs.Differing.{ComponentDiffers, ComponentsDiffer, CountsDiffer, IsDue};
+ghost use Rattle.asn1_table_extending.specs.Differing.{PresencesDiffer, TablesDiffer};
 ghost use Rattle.asn1_table_extending.specs.Matching.{ComponentMatches, ComponentsMatch, IsListed, PresencesMatch};
 ghost use Rattle.asn1_table_extending.specs.Matching.{TablesMatch};
 
@@ -19,6 +21,7 @@ pub fn check_table(
     pairs: &mut Vec<Pair>,
 ) -> Result<(), Fault>
     ensures matches { OnOk result (TablesMatch (IsListed pairs.new.items) older.now newer.now) }
+    ensures refused { IfErr result (IsDue (λ d. TablesDiffer d older.now newer.now)) }
     ensures kept { OnOk result (Begins pairs.old.items pairs.new.items) }
 {
     check_components(older.root.as_slice(), newer.root.as_slice(), false, pairs)?;
@@ -43,6 +46,7 @@ pub fn check_components(
     pairs: &mut Vec<Pair>,
 ) -> Result<(), Fault>
     ensures matches { OnOk result (ComponentsMatch (IsListed pairs.new.items) may_have_more older.now newer.now) }
+    ensures refused { IfErr result (IsDue (λ d. ComponentsDiffer d may_have_more older.now newer.now)) }
     ensures kept { OnOk result (Begins pairs.old.items pairs.new.items) }
 {
     check_count(
@@ -77,6 +81,7 @@ pub fn check_count(
 ) -> Result<(), Difference>
     ensures enough { OnOk result (older ≤ newer) }
     ensures as_many { OnOk result (IsTrue may_have_more ⊎ (newer ≤ older)) }
+    ensures refused { IfErr result (λ d. CountsDiffer missing added d may_have_more older newer) }
 {
     if newer < older {
         return Err(missing);
@@ -89,7 +94,8 @@ pub fn check_count(
 
 /// The newer component has the tags of the older, and may be absent as that may.
 fn check_component(older: &Component, newer: &Component) -> Result<(), Difference>
-    ensures { OnOk result (ComponentMatches older.now newer.now) }
+    ensures matches { OnOk result (ComponentMatches older.now newer.now) }
+    ensures refused { IfErr result (λ d. ComponentDiffers d older.now newer.now) }
 {
     if !are_among(older.tags.as_slice(), newer.tags.as_slice()) {
         return Err(Difference::ComponentTags);
@@ -99,7 +105,7 @@ fn check_component(older: &Component, newer: &Component) -> Result<(), Differenc
 
 /// Whether tags are all among others.
 fn are_among(tags: &[Tag], others: &[Tag]) -> bool
-    ensures { IsTrue result → All (Contains others.now) tags.now }
+    ensures { IsTrue result ↔ All (Contains others.now) tags.now }
 {
     for tag in tags {
         if !is_among(*tag, others) {
@@ -111,7 +117,7 @@ fn are_among(tags: &[Tag], others: &[Tag]) -> bool
 
 /// Whether a tag is among others.
 fn is_among(tag: Tag, others: &[Tag]) -> bool
-    ensures { IsTrue result → Contains others.now tag }
+    ensures { IsTrue result ↔ Contains others.now tag }
 {
     for other in others {
         if is_same_tag(tag, *other) {
@@ -123,14 +129,15 @@ fn is_among(tag: Tag, others: &[Tag]) -> bool
 
 /// Whether two tags are one (X.680 8).
 pub fn is_same_tag(tag: Tag, other: Tag) -> bool
-    ensures { IsTrue result → tag ≡ other }
+    ensures { IsTrue result ↔ tag ≡ other }
 {
     tag == other
 }
 
 /// Both components are always there, or both are OPTIONAL, or both have the same default.
 fn check_presence(older: &Presence, newer: &Presence) -> Result<(), Difference>
-    ensures { OnOk result (PresencesMatch older.now newer.now) }
+    ensures matches { OnOk result (PresencesMatch older.now newer.now) }
+    ensures refused { IfErr result (λ d. PresencesDiffer d older.now newer.now) }
 {
     match (older, newer) {
         (Presence::Required, Presence::Required) => Ok(()),

@@ -1,9 +1,10 @@
 //! Whether constraints, kinds of strings and items are equal.
-ghost use Rattle.std.specs.Prelude.{◌≡◌, IsTrue, OnOk};
+ghost use Rattle.std.specs.Prelude.{◌≡◌, ◌↔◌, IfErr, IsTrue, OnOk};
 ghost use Rattle.asn1_model.specs.Versions.{Begins};
 ghost use Rattle.asn1_schema_constraints.specs.Bounds.{range_of};
 ghost use Rattle.asn1_schema_constraints.specs.Terms.{size_of};
 ghost use Rattle.asn1_table_nodes.specs.Meaning.{alphabet_in};
+ghost use Rattle.asn1_table_extending.specs.Differing.{ItemsDiffer, LimitsDiffer, SizesDiffer, StringsDiffer};
 ghost use Rattle.asn1_table_extending.specs.Matching.{ItemsMatch, LimitsMatch, StringsMatch};
 
 use crate::Difference;
@@ -15,7 +16,8 @@ pub fn check_limits(
     older: Option<NumberLimits>,
     newer: Option<NumberLimits>,
 ) -> Result<(), Difference>
-    ensures { OnOk result (LimitsMatch older newer) }
+    ensures matches { OnOk result (LimitsMatch older newer) }
+    ensures refused { IfErr result (λ d. LimitsDiffer d older newer) }
 {
     if !are_same_limits(older, newer) {
         return Err(Difference::Bounds);
@@ -25,7 +27,7 @@ pub fn check_limits(
 
 /// Whether two value constraints are equal, or both missing.
 fn are_same_limits(older: Option<NumberLimits>, newer: Option<NumberLimits>) -> bool
-    ensures { IsTrue result → LimitsMatch older newer }
+    ensures { IsTrue result ↔ LimitsMatch older newer }
 {
     match (older, newer) {
         (None, None) => true,
@@ -38,7 +40,7 @@ fn are_same_limits(older: Option<NumberLimits>, newer: Option<NumberLimits>) -> 
 
 /// Whether bounds have the same ends.
 fn are_same_bounds(older: Bounded<i128>, newer: Bounded<i128>) -> bool
-    ensures { IsTrue result → range_of older ≡ range_of newer }
+    ensures { IsTrue result ↔ range_of older ≡ range_of newer }
 {
     older.as_start().copied() == newer.as_start().copied()
         && older.as_end().copied() == newer.as_end().copied()
@@ -46,7 +48,8 @@ fn are_same_bounds(older: Bounded<i128>, newer: Bounded<i128>) -> bool
 
 /// The size constraints are equal (X.680 51.5).
 pub fn check_sizes(older: Sizes, newer: Sizes) -> Result<(), Difference>
-    ensures { OnOk result (size_of older ≡ size_of newer) }
+    ensures matches { OnOk result (size_of older ≡ size_of newer) }
+    ensures refused { IfErr result (λ d. SizesDiffer d older newer) }
 {
     if !are_same_sizes(older, newer) {
         return Err(Difference::Sizes);
@@ -56,7 +59,7 @@ pub fn check_sizes(older: Sizes, newer: Sizes) -> Result<(), Difference>
 
 /// Whether two size constraints are equal.
 fn are_same_sizes(older: Sizes, newer: Sizes) -> bool
-    ensures { IsTrue result → size_of older ≡ size_of newer }
+    ensures { IsTrue result ↔ size_of older ≡ size_of newer }
 {
     older.root.minimum() == newer.root.minimum()
         && older.root.as_end().copied() == newer.root.as_end().copied()
@@ -65,7 +68,8 @@ fn are_same_sizes(older: Sizes, newer: Sizes) -> bool
 
 /// The strings are of one kind, and their constraints are equal (X.680 41).
 pub fn check_strings(older: &StringTable, newer: &StringTable) -> Result<(), Difference>
-    ensures { OnOk result (StringsMatch older.now newer.now) }
+    ensures matches { OnOk result (StringsMatch older.now newer.now) }
+    ensures refused { IfErr result (λ d. StringsDiffer d older.now newer.now) }
 {
     if !is_same_kind(older.kind, newer.kind) {
         return Err(Difference::Kind);
@@ -79,7 +83,7 @@ pub fn check_strings(older: &StringTable, newer: &StringTable) -> Result<(), Dif
 
 /// Whether two permitted alphabets are equal, or both missing.
 fn is_same_alphabet(older: &Option<CharacterTable>, newer: &Option<CharacterTable>) -> bool
-    ensures { IsTrue result → alphabet_in older.now ≡ alphabet_in newer.now }
+    ensures { IsTrue result ↔ alphabet_in older.now ≡ alphabet_in newer.now }
 {
     match older {
         None => newer.is_none(),
@@ -95,7 +99,7 @@ fn is_same_alphabet(older: &Option<CharacterTable>, newer: &Option<CharacterTabl
 
 /// Whether two kinds of character strings are one.
 fn is_same_kind(older: StringKind, newer: StringKind) -> bool
-    ensures { IsTrue result → older ≡ newer }
+    ensures { IsTrue result ↔ older ≡ newer }
 {
     match older {
         StringKind::Numeric => matches!(newer, StringKind::Numeric),
@@ -112,7 +116,8 @@ fn is_same_kind(older: StringKind, newer: StringKind) -> bool
 
 /// The root items are equal, and the added items of the older ENUMERATED are the first ones of the newer (X.680 20).
 pub fn check_items(older: &ItemTable, newer: &ItemTable) -> Result<(), Difference>
-    ensures { OnOk result (ItemsMatch older.now newer.now) }
+    ensures matches { OnOk result (ItemsMatch older.now newer.now) }
+    ensures refused { IfErr result (λ d. ItemsDiffer d older.now newer.now) }
 {
     if !are_same_items(older.root.as_slice(), newer.root.as_slice()) {
         return Err(Difference::RootItems);
@@ -128,21 +133,21 @@ pub fn check_items(older: &ItemTable, newer: &ItemTable) -> Result<(), Differenc
 
 /// Whether there are extension markers in both, or in neither (X.680 52).
 pub fn is_same_marker(older: bool, newer: bool) -> bool
-    ensures { IsTrue result → older ≡ newer }
+    ensures { IsTrue result ↔ older ≡ newer }
 {
     older == newer
 }
 
 /// Whether items are equal.
 fn are_same_items(older: &[isize], newer: &[isize]) -> bool
-    ensures { IsTrue result → older.now ≡ newer.now }
+    ensures { IsTrue result ↔ older.now ≡ newer.now }
 {
     older == newer
 }
 
 /// Whether items begin with others.
 fn begins_with(items: &[isize], first: &[isize]) -> bool
-    ensures { IsTrue result → Begins first.now items.now }
+    ensures { IsTrue result ↔ Begins first.now items.now }
 {
     if first.len() > items.len() {
         return false;

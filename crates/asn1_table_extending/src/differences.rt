@@ -1,4 +1,7 @@
 //! Why a type is no newer version of another.
+ghost use Rattle.std.specs.Prelude.{◌≡◌};
+ghost use Rattle.asn1_table_extending.specs.declared.differences.Fault.TheVariants.{Differs, NoMemory};
+
 use std::alloc::AllocError;
 use thiserror::Error;
 
@@ -83,12 +86,16 @@ pub enum Fault {
 }
 
 impl From<Difference> for Fault {
+    ghost from_gives = { λ difference r. r ≡ Differs difference };
+
     fn from(difference: Difference) -> Self {
         Fault::Differs(difference)
     }
 }
 
 impl From<AllocError> for Fault {
+    ghost from_gives = { λ _ r. r ≡ NoMemory };
+
     fn from(_refused: AllocError) -> Self {
         Fault::NoMemory
     }

@@ -1,8 +1,10 @@
 //! Whether a type of one table is a newer version of a type of another, however deep both are unfolded.
-ghost use Rattle.std.specs.Prelude.{◌≡◌, ℕ, OnOk};
+ghost use Rattle.std.specs.Prelude.{◌≡◌, ℕ, IfErr, OnOk, slice_get};
 ghost use Rattle.asn1_model.specs.Versions.{Begins, Extends};
 ghost use Rattle.asn1_schema_constraints.specs.Terms.{size_of};
 ghost use Rattle.asn1_table_nodes.specs.Meaning.{type_at};
+ghost use Rattle.asn1_table_extending.specs.Differing.{BothDiffer, IsDue, IsRefused, IsRefusedAt, NodesDiffer};
+ghost use Rattle.asn1_table_extending.specs.Differing.{ScalarsDiffer, SizesDiffer, error_of};
 ghost use Rattle.asn1_table_extending.specs.Matching.{IsListed, NodesMatch, PairMatches, ScalarsMatch};
 
 use crate::alternatives::check_choice;
@@ -35,6 +37,7 @@ pub fn check_extends(
 ) -> Result<(), ExtendingError>
     ensures extends { OnOk result ((n : ℕ) → Extends (type_at older.now.nodes.items n old_place)
         (type_at newer.now.nodes.items n new_place)) }
+    ensures refused { IfErr result (IsRefused older.now.nodes.items newer.now.nodes.items) }
 {
     let first = Pair {
         older: old_place,
@@ -53,7 +56,9 @@ pub fn check_extends(
 }
 
 /// The error of a fault of a pair.
-fn error_at(pair: Pair, fault: Fault) -> ExtendingError {
+fn error_at(pair: Pair, fault: Fault) -> ExtendingError
+    ensures { result ≡ error_of pair fault }
+{
     match fault {
         Fault::Differs(difference) => ExtendingError::NotExtended {
             newer: pair.newer,
@@ -72,6 +77,7 @@ fn check_pair(
     pairs: &mut Vec<Pair>,
 ) -> Result<(), ExtendingError>
     ensures matches { OnOk result (PairMatches older.now.nodes.items newer.now.nodes.items pairs.new.items pair) }
+    ensures refused { IfErr result (IsRefusedAt older.now.nodes.items newer.now.nodes.items pair) }
     ensures kept { OnOk result (Begins pairs.old.items pairs.new.items) }
 {
     match check_places(older, newer, pair, pairs) {
@@ -88,6 +94,8 @@ fn check_places(
     pairs: &mut Vec<Pair>,
 ) -> Result<(), Fault>
     ensures matches { OnOk result (PairMatches older.now.nodes.items newer.now.nodes.items pairs.new.items pair) }
+    ensures refused { IfErr result (IsDue (λ d. BothDiffer d (slice_get older.now.nodes.items pair.older)
+        (slice_get newer.now.nodes.items pair.newer))) }
     ensures kept { OnOk result (Begins pairs.old.items pairs.new.items) }
 {
     match (older.node(pair.older), newer.node(pair.newer)) {
@@ -100,6 +108,7 @@ fn check_places(
 /// The same of two types.
 fn check_node(older: &TypeNode, newer: &TypeNode, pairs: &mut Vec<Pair>) -> Result<(), Fault>
     ensures matches { OnOk result (NodesMatch (IsListed pairs.new.items) older.now newer.now) }
+    ensures refused { IfErr result (IsDue (λ d. NodesDiffer d older.now newer.now)) }
     ensures kept { OnOk result (Begins pairs.old.items pairs.new.items) }
 {
     match (older, newer) {
@@ -131,6 +140,7 @@ fn check_list(
     pairs: &mut Vec<Pair>,
 ) -> Result<(), Fault>
     ensures sizes { OnOk result (size_of sizes ≡ size_of others) }
+    ensures refused { IfErr result (IsDue (λ d. SizesDiffer d sizes others)) }
     ensures listed { OnOk result (IsListed pairs.new.items place other) }
     ensures kept { OnOk result (Begins pairs.old.items pairs.new.items) }
 {
@@ -147,7 +157,8 @@ fn check_list(
 
 /// Two types without parts are of one kind and have the same constraints.
 fn check_scalar(older: &TypeNode, newer: &TypeNode) -> Result<(), Difference>
-    ensures { OnOk result (ScalarsMatch older.now newer.now) }
+    ensures matches { OnOk result (ScalarsMatch older.now newer.now) }
+    ensures refused { IfErr result (λ d. ScalarsDiffer d older.now newer.now) }
 {
     match (older, newer) {
         (TypeNode::Boolean, TypeNode::Boolean) => Ok(()),

@@ -1,5 +1,7 @@
-use Rattle.std.proofs.Common.{false}
+use Rattle.std.proofs.Common.{false, inl, inr, refl}
 use Rattle.asn1_table_extending.proofs.Matched.{components_at, components_listed}
+use Rattle.asn1_table_extending.proofs.Refused.{components_differ_at, raised_more, untrue}
+use Rattle.asn1_table_extending.specs.Differing.{ComponentsDiffer, TablesDiffer}
 use Rattle.asn1_table_extending.proofs.components.check_table.Goals as goal
 
 pub returns-clause-matches : goal.returns-clause-matches
@@ -8,7 +10,22 @@ returns-clause-matches c =
     let qs = c.check_components-2.new.pairs.items in (
       components_at qs false _ _ c.args.older.now.root.items c.args.newer.now.root.items c.as_slice.ensures.value c.as_slice-2.ensures.value
           (components_listed ps qs c.in_ok-check_components-2.ensures.kept false _ _ c.in_ok-check_components.ensures.matches),
-      c.is_same_marker.ensures c.if-not-is_same_marker.false,
+      c.is_same_marker.ensures.0 c.if-not-is_same_marker.false,
       components_at qs c.args.older.now.is_extensible _ _ c.args.older.now.additions.items c.args.newer.now.additions.items
           c.as_slice-3.ensures.value c.as_slice-4.ensures.value c.in_ok-check_components-2.ensures.matches,
     )
+
+pub returns-in_err-check_components-clause-refused : goal.returns-in_err-check_components-clause-refused
+returns-in_err-check_components-clause-refused c =
+    raised_more (λ d. ComponentsDiffer d false c.as_slice.result.now c.as_slice-2.result.now) (λ d. TablesDiffer d c.args.older.now c.args.newer.now) _ _
+    (λ d h. inl (components_differ_at d false _ _ c.args.older.now.root.items c.args.newer.now.root.items c.as_slice.ensures.value c.as_slice-2.ensures.value h))
+    c.from_residual.ensures.1 c.in_err-check_components.ensures.refused
+
+pub returns-in_err-check_components-2-clause-refused : goal.returns-in_err-check_components-2-clause-refused
+returns-in_err-check_components-2-clause-refused c =
+    raised_more (λ d. ComponentsDiffer d c.args.older.now.is_extensible c.as_slice-3.result.now c.as_slice-4.result.now) (λ d. TablesDiffer d c.args.older.now c.args.newer.now) _ _
+    (λ d h. inr (inr (components_differ_at d c.args.older.now.is_extensible _ _ c.args.older.now.additions.items c.args.newer.now.additions.items c.as_slice-3.ensures.value c.as_slice-4.ensures.value h)))
+    c.from_residual-in_err-check_components-2.ensures.1 c.in_err-check_components-2.ensures.refused
+
+pub returns-then-not-is_same_marker-clause-refused : goal.returns-then-not-is_same_marker-clause-refused
+returns-then-not-is_same_marker-clause-refused c = inr (inl (refl, λ e. untrue _ c.is_same_marker.ensures.1 c.if-not-is_same_marker.true e))

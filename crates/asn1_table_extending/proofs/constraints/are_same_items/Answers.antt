@@ -3,4 +3,4 @@ use Rattle.std.proofs.lemmas.Slice.Eq.{slice_eq-Decides}
 use Rattle.asn1_table_extending.proofs.constraints.are_same_items.Goals as goal
 
 pub returns : goal.returns
-returns c = λ h. (slice_eq-Decides Decides-int_eq _ _ _ c.eq.ensures).0 h
+returns c = slice_eq-Decides Decides-int_eq _ _ _ c.eq.ensures

@@ -1,5 +1,6 @@
 use Rattle.std.proofs.Common.{arith, subst}
 use Rattle.asn1_table_extending.proofs.Matched.{all_extend, all_match, listed_more, matched_next}
+use Rattle.asn1_table_extending.proofs.Refused.{refused_passed}
 use Rattle.asn1_table_extending.specs.Matching.{PairMatches}
 use Rattle.asn1_table_extending.proofs.extending.check_extends.Goals as goal
 
@@ -15,12 +16,14 @@ loop-next-preserved c =
       matched = matched_next ns ms ps qs c.loop-next.next c.index-pair.result.now c.in_ok-check_pair.ensures.kept (omega (arith, c.loop-next-test.true, c.len.ensures)) c.loop-next.invariant.matched matches;
     }
 
-pub returns : goal.returns
-returns c =
+pub returns-clause-extends : goal.returns-clause-extends
+returns-clause-extends c =
     let o = c.args.older.now in
     let w = c.args.newer.now in
     let ps = c.loop-next.pairs.items in
-    record {
-      extends = λ n. all_extend o.nodes.items w.nodes.items o.lawful o.tidy w.lawful w.tidy ps
-          (all_match o.nodes.items w.nodes.items ps c.loop-next.next (omega (arith, c.loop-next-test.false, c.len.ensures)) c.loop-next.invariant.matched) n c.args.old_place c.args.new_place c.loop-next.invariant.first;
-    }
+    λ n. all_extend o.nodes.items w.nodes.items o.lawful o.tidy w.lawful w.tidy ps
+    (all_match o.nodes.items w.nodes.items ps c.loop-next.next (omega (arith, c.loop-next-test.false, c.len.ensures)) c.loop-next.invariant.matched) n c.args.old_place c.args.new_place c.loop-next.invariant.first
+
+pub returns-in_err-check_pair-clause-refused : goal.returns-in_err-check_pair-clause-refused
+returns-in_err-check_pair-clause-refused c =
+    refused_passed c.args.older.now.nodes.items c.args.newer.now.nodes.items _ _ _ c.from_residual.ensures.1 c.in_err-check_pair.ensures.refused
