@@ -1,5 +1,6 @@
 //! Two versions of a type, of a table each.
-ghost use Rattle.std.specs.Prelude.{◌≡◌, IfOk};
+ghost use Rattle.std.specs.Prelude.{◌≡◌, IfErr, IfOk};
+ghost use Rattle.asn1_table_extending.specs.Differing.{IsRefused};
 ghost use Rattle.asn1_table_routes.specs.Schemas.{IsNewer};
 
 use asn1_table_extending::{ExtendingError, check_extends};
@@ -37,6 +38,7 @@ impl<'a> Versions<'a> {
         ensures old_place { IfOk result (λ v. v.old_place ≡ old_place) }
         ensures newer { IfOk result (λ v. v.newer.now ≡ newer.now) }
         ensures new_place { IfOk result (λ v. v.new_place ≡ new_place) }
+        ensures refused { IfErr result (IsRefused older.now.nodes.items newer.now.nodes.items) }
     {
         check_extends(alloc, newer, new_place, older, old_place)?;
         Ok(Versions {
