@@ -110,7 +110,7 @@ AT_ONCE int put_constrained(struct bits *o, uint64_t number, unsigned octets)
     return put_bits(o, number, 8 * octets);
 }
 
-static int put_length(struct bits *o, size_t length)
+AT_ONCE int put_length(struct bits *o, size_t length)
 {
     push_padding(o);
     if (length < 128)
@@ -136,13 +136,13 @@ static int put_count(struct bits *o, size_t count)
     return count < 16384 ? put_length(o, count) : put_header(o, count / 16384);
 }
 
-/* The octets that are left, at most eight of them, as the first of eight. */
-static uint64_t load_last(const struct input *in)
+/* At most eight octets as the first of eight. */
+__attribute__((noinline)) static uint64_t load_last(const uint8_t *octets, size_t count)
 {
     uint64_t word = 0;
     unsigned i;
     for (i = 0; i < 8; i++)
-        word = word << 8 | (i < in->count ? in->octets[i] : 0);
+        word = word << 8 | (i < count ? octets[i] : 0);
     return word;
 }
 
@@ -158,7 +158,7 @@ AT_ONCE int get_wide(struct input *in, unsigned width, uint64_t *number)
     } else {
         if (end > 8 * in->count)
             return 0;
-        word = load_last(in) << in->bits;
+        word = load_last(in->octets, in->count) << in->bits;
     }
     *number = word >> (64 - width);
     in->octets += end / 8;
@@ -224,7 +224,7 @@ AT_ONCE int get_constrained(struct input *in, unsigned octets, uint64_t *number)
 }
 
 /* The number of units that come next, and whether more follow them. */
-static int get_count(struct input *in, size_t *count, int *more)
+AT_ONCE int get_count(struct input *in, size_t *count, int *more)
 {
     uint32_t first, second;
     read_padding(in);

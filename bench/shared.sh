@@ -121,7 +121,7 @@ timed() {
 }
 
 # measure PROGRAM [WORD]: runs the work in C, in generated code and in the proved program five times in turn, and prints
-# the best times as a table.
+# the best times as a table, each times scale.
 measure() {
     : > "$work/times"
     for round in 1 2 3 4 5; do
@@ -129,5 +129,5 @@ measure() {
         [ -z "$generated" ] || timed asn1c "$generated"
         timed proved "$work/crates/$1/out/$1" $2
     done
-    awk -f "$here/table.awk" "$work/times"
+    awk -v scale="$scale" -f "$here/table.awk" "$work/times"
 }

@@ -19,7 +19,7 @@ static int put_truth(struct bits *o, const struct scalar *s)
     return put_bits(o, s->number, 1);
 }
 
-static int get_number_of(struct input *in, unsigned width, struct scalar *s)
+AT_ONCE int get_number_of(struct input *in, unsigned width, struct scalar *s)
 {
     uint32_t number;
     if (!get_bits(in, width, &number))
