@@ -16,17 +16,12 @@ APART static int append_bits(struct bits *o)
     return 1;
 }
 
-/* Appends numbers of this width: at most 32 bits in one call. */
 static inline int append_numbers(struct bits *o, unsigned width)
 {
     unsigned i;
-    for (i = 0; i < TURNS; i++) {
-        uint32_t low = width < 32 ? i & ((1u << width) - 1) : i;
-        if (width > 32 && !put_bits(o, 0, width - 32))
+    for (i = 0; i < TURNS; i++)
+        if (!put_bits(o, width < 32 ? i & ((1u << width) - 1) : i, width))
             return 0;
-        if (!put_bits(o, low, width > 32 ? 32 : width))
-            return 0;
-    }
     return 1;
 }
 
@@ -62,14 +57,12 @@ APART static int read_bits(struct input *in, uint64_t *sum)
 
 static inline int read_numbers(struct input *in, unsigned width, uint64_t *sum)
 {
-    uint32_t high = 0, low;
+    uint64_t number;
     unsigned i;
     for (i = 0; i < TURNS; i++) {
-        if (width > 32 && !get_bits(in, width - 32, &high))
+        if (!get_wide(in, width, &number))
             return 0;
-        if (!get_bits(in, width > 32 ? 32 : width, &low))
-            return 0;
-        *sum = *sum * 31 + ((uint64_t)high << 32 | low);
+        *sum = *sum * 31 + number;
     }
     return 1;
 }

@@ -29,6 +29,12 @@ static uint64_t sum_of(const uint8_t *octets, size_t count)
     return sum;
 }
 
+/* Has a value be in memory as a whole, as one that a program keeps. */
+static void keep(const void *value)
+{
+    __asm__ volatile("" : : "r"(value) : "memory");
+}
+
 static double now(void)
 {
     struct timespec t;

@@ -62,7 +62,7 @@ constraints='asn1_model asn1_schema_constraints asn1_schema_laws asn1_schema_typ
 codecs='asn1_schema_decode asn1_schema_encode asn1_schema_errors oer_codec per_codec'
 
 # make_bench_common, make_bench_rules, make_types_bench, make_scalars_bench, make_kinds_types, make_kinds_bench,
-# make_kinds_recode, make_tables_bench: the packages with these names.
+# make_kinds_recode, make_tables_bench, make_vehicle_bench: the packages with these names.
 make_bench_common() {
     make_package bench_common '' lib=common.in
 }
@@ -88,6 +88,16 @@ make_kinds_recode() {
 make_tables_bench() {
     make_package tables_bench "kinds_types $schema bench_common asn1_relay_core asn1_table_nodes asn1_table_per asn1_table_relay asn1_table_tape asn1_table_types per_codec_encoder per_codec_reading anyhow" \
         main=tables/main.in nodes=tables/nodes.in sample=types/sample.in
+}
+make_vehicle_bench() {
+    make_package vehicle_bench 'asn1_values_bits bench_common asn1_notation_syntax asn1_notation_types asn1_relay_core asn1_table_relay anyhow' \
+        main=vehicle/main.in messages=vehicle/messages.in
+    {
+        echo '//! The module.'
+        echo "pub(crate) const MODULE: &[u8] = b\""
+        sed 's/\\/\\\\/g; s/"/\\"/g' "$here/vehicle/vehicle.asn1"
+        echo '";'
+    } > "$work/crates/vehicle_bench/src/module.rt"
 }
 
 # compile FLAG.. FILE: the work in C.
@@ -121,7 +131,7 @@ timed() {
 }
 
 # measure PROGRAM [WORD]: runs the work in C, in generated code and in the proved program five times in turn, and prints
-# the best times as a table.
+# the best times as a table, each times scale.
 measure() {
     : > "$work/times"
     for round in 1 2 3 4 5; do
@@ -129,5 +139,5 @@ measure() {
         [ -z "$generated" ] || timed asn1c "$generated"
         timed proved "$work/crates/$1/out/$1" $2
     done
-    awk -f "$here/table.awk" "$work/times"
+    awk -v scale="$scale" -f "$here/table.awk" "$work/times"
 }

@@ -12,17 +12,17 @@ BEGIN {
     text["sequences"] = "10^6 sequences"
     text["list"] = "a list of 10^6 numbers"
     text["octets"] = "64 MiB in an OCTET STRING"
-    text["booleans"] = "a list of 10^6 BOOLEAN"
-    text["numbers_16"] = "a list of 10^6 INTEGER (0..65535)"
-    text["numbers_64"] = "a list of 10^6 INTEGER (0..2^64 - 1)"
-    text["integers"] = "a list of 10^6 INTEGER of 1 to 7 octets"
-    text["items"] = "a list of 10^6 ENUMERATED"
-    text["bit_strings"] = "a list of 10^6 BIT STRING of up to 125 bits"
-    text["octet_strings"] = "a list of 10^6 OCTET STRING of up to 16 octets"
-    text["visible_strings"] = "a list of 10^6 VisibleString of up to 16 characters"
-    text["digits"] = "a list of 10^6 VisibleString (FROM (\"0\"..\"9\")) (SIZE (0..16))"
-    text["utf8_strings"] = "a list of 10^6 UTF8String of up to 16 octets"
-    text["identifiers"] = "a list of 10^6 OBJECT IDENTIFIER of 5 arcs"
+    text["booleans"] = "10^6 in lists of BOOLEAN"
+    text["numbers_16"] = "10^6 in lists of INTEGER (0..65535)"
+    text["numbers_64"] = "10^6 in lists of INTEGER (0..2^64 - 1)"
+    text["integers"] = "10^6 in lists of INTEGER of 1 to 7 octets"
+    text["items"] = "10^6 in lists of ENUMERATED"
+    text["bit_strings"] = "10^6 in lists of BIT STRING of up to 125 bits"
+    text["octet_strings"] = "10^6 in lists of OCTET STRING of up to 16 octets"
+    text["visible_strings"] = "10^6 in lists of VisibleString of up to 16 characters"
+    text["digits"] = "10^6 in lists of VisibleString (FROM (\"0\"..\"9\")) (SIZE (0..16))"
+    text["utf8_strings"] = "10^6 in lists of UTF8String of up to 16 octets"
+    text["identifiers"] = "10^6 in lists of OBJECT IDENTIFIER of 5 arcs"
     text["choices"] = "10^6 choices of 20 alternatives"
     text["additions"] = "10^6 sequences with 3 of 8 additions"
     text["bags_1000"] = "10^3 bags of 10^3 numbers"
@@ -42,7 +42,7 @@ BEGIN {
     if ($1 == "asn1c") generated = 1
     if ($2 ~ /^recode_/) recodes = 1
 }
-function ms(key) { return key in best ? sprintf(best[key] < 9950 ? "%.1f" : "%.0f", best[key] / 1000) : "" }
+function ms(key,   time) { time = best[key] * (scale ? scale : 1); return key in best ? sprintf(time < 9950 ? "%.1f" : "%.0f", time / 1000) : "" }
 function ratio(a, b) { return best[b] ? sprintf("%.2f", best[a] / best[b]) : "" }
 function words(name,   kind, done) {
     if (name in text) return text[name]

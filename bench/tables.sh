@@ -4,6 +4,10 @@
 set -e
 here=$(cd "$(dirname "$0")" && pwd)
 work=${1:-$(mktemp -d)}
+echo "## vehicle"
+echo
+"$here/vehicle/run.sh" time "$work"
+echo
 echo "## bits"
 echo
 "$here/run.sh" "$work"

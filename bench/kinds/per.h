@@ -112,18 +112,13 @@ static int per_pass(struct input *in, size_t count)
 /* Up to 64 presence bits. */
 static int per_get_presence(struct input *in, unsigned *count, uint64_t *presence)
 {
-    uint32_t number, bits;
-    unsigned i;
+    uint32_t number;
     if (!get_bits(in, 7, &number) || number >= 64)
         return 0;
     *count = number + 1;
-    *presence = 0;
-    for (i = 0; i < *count; i += 16) {
-        unsigned width = *count - i < 16 ? *count - i : 16;
-        if (!get_bits(in, width, &bits))
-            return 0;
-        *presence |= (uint64_t)bits << (64 - i - width);
-    }
+    if (!get_wide(in, *count, presence))
+        return 0;
+    *presence <<= 64 - *count;
     return 1;
 }
 

@@ -16,10 +16,10 @@ static int get_count_of(struct input *in, uint64_t *count, int *more)
 
 static int put_truth(struct bits *o, const struct scalar *s)
 {
-    return put_bits(o, (uint32_t)s->number, 1);
+    return put_bits(o, s->number, 1);
 }
 
-static int get_number_of(struct input *in, unsigned width, struct scalar *s)
+AT_ONCE int get_number_of(struct input *in, unsigned width, struct scalar *s)
 {
     uint32_t number;
     if (!get_bits(in, width, &number))
@@ -53,39 +53,25 @@ static int get_number_64(struct input *in, struct scalar *s)
     return get_constrained(in, 8, &s->number);
 }
 
-/* A number of a given width in octets. */
-static int put_wide(struct bits *o, uint64_t number, unsigned octets)
-{
-    if (octets > 4 && !put_bits(o, (uint32_t)(number >> 32), 8 * (octets - 4)))
-        return 0;
-    return put_bits(o, (uint32_t)number, 8 * (octets < 4 ? octets : 4));
-}
-
 static int put_integer(struct bits *o, const struct scalar *s)
 {
     unsigned width = signed_octets_of(s->number);
-    return put_length(o, width) && put_wide(o, s->number, width);
+    return put_length(o, width) && put_bits(o, s->number, 8 * width);
 }
 
 static int get_integer(struct input *in, struct scalar *s)
 {
     size_t width;
-    uint32_t high = 0, low;
     int more;
     if (!get_count(in, &width, &more) || more || width < 1 || width > 8)
         return 0;
-    if (width > 4 && !get_bits(in, 8 * ((unsigned)width - 4), &high))
-        return 0;
-    if (!get_bits(in, 8 * (unsigned)(width < 4 ? width : 4), &low))
-        return 0;
-    s->number = (uint64_t)high << 32 | low;
-    return signed_octets_of(s->number) == width;
+    return get_wide(in, 8 * (unsigned)width, &s->number) && signed_octets_of(s->number) == width;
 }
 
 /* Two items of the root, and one extension addition. */
 static int put_item(struct bits *o, const struct scalar *s)
 {
-    return s->number < 2 ? put_bits(o, (uint32_t)s->number, 2) : put_bits(o, 0x80 | (uint32_t)(s->number - 2), 8);
+    return s->number < 2 ? put_bits(o, s->number, 2) : put_bits(o, 0x80 | (s->number - 2), 8);
 }
 
 static int get_item(struct input *in, struct scalar *s)
@@ -187,7 +173,7 @@ static int get_visible(struct input *in, struct scalar *s)
 static int put_digits(struct bits *o, const struct scalar *s)
 {
     size_t i;
-    if (s->count > DIGITS || !put_bits(o, (uint32_t)s->count, width_of(DIGITS)))
+    if (s->count > DIGITS || !put_bits(o, s->count, width_of(DIGITS)))
         return 0;
     if (s->count > 0)
         push_padding(o);

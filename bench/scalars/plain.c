@@ -52,7 +52,7 @@ INLINED int get_list(struct input *in, const struct kind *kind, struct scalar *l
     in->bits = 0;
     *held = 0;
     do {
-        if (!get_count_of(in, &count, &more) || count > COUNT - *held)
+        if (!get_count_of(in, &count, &more) || count > ELEMENTS - *held)
             return 0;
         for (i = 0; i < count; i++)
             if (!kind->get(in, &list[(*held)++]))
@@ -63,7 +63,7 @@ INLINED int get_list(struct input *in, const struct kind *kind, struct scalar *l
 
 INLINED int time_list(const char *to_write, const char *to_read, const struct kind *kind)
 {
-    struct scalar *list = calloc(COUNT, sizeof *list);
+    struct scalar *list = calloc(ELEMENTS, sizeof *list);
     struct buffer b = {0};
     struct input in;
     uint64_t state = 1, sum = 0;
@@ -71,24 +71,24 @@ INLINED int time_list(const char *to_write, const char *to_read, const struct ki
     size_t i, held;
     if (!list)
         return 0;
-    for (i = 0; i < COUNT; i++) {
+    for (i = 0; i < ELEMENTS; i++) {
         state = next(state);
         if (!kind->make(&list[i], state))
             return 0;
     }
     start = now();
-    if (!put_list(&b, kind, list, COUNT))
+    if (!put_list(&b, kind, list, ELEMENTS))
         return 0;
     time = now() - start;
     tell(to_write, time, sum_of(b.octets, b.count));
-    for (i = 0; i < COUNT; i++)
+    for (i = 0; i < ELEMENTS; i++)
         release(&list[i]);
     free(list);
 
     in.octets = b.octets;
     in.count = b.count;
     start = now();
-    if (!(list = calloc(COUNT, sizeof *list)) || !get_list(&in, kind, list, &held))
+    if (!(list = calloc(ELEMENTS, sizeof *list)) || !get_list(&in, kind, list, &held))
         return 0;
     time = now() - start;
     for (i = 0; i < held; i++) {

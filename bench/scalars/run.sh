@@ -1,6 +1,7 @@
 #!/bin/sh
 # bench/scalars/run.sh coer|oer|uper|aper [FOLDER]: times lists of values of each scalar type by one set of rules, and
-# compares them with the same work in C. The rest is as in bench/run.sh.
+# compares them with the same work in C. Lists have 250,000 elements; times are those of 10^6. The rest is as in
+# bench/run.sh.
 here=$(cd "$(dirname "$0")/.." && pwd)
 rules=${1:-coer}
 work=${2:-$(mktemp -d)}
@@ -17,4 +18,5 @@ make_bench_common
 make_bench_rules
 make_scalars_bench
 prove scalars_bench
+scale=4
 measure scalars_bench "$rules"

@@ -2,6 +2,9 @@
  * rules defines put_count_of, get_count_of and put_* and get_* of each kind. */
 #include "../buffer.h"
 
+/* The number of elements of a list: no list, and in the other program no vector that doubles, comes near the 32 MiB
+ * from which glibc maps memory anew for each. */
+#define ELEMENTS (COUNT < 250000u ? COUNT : 250000u)
 #define ARCS 5u
 #define DIGITS 16u
 

@@ -5,12 +5,12 @@
 static int put_sample(struct buffer *b, const struct sample *s)
 {
     struct bits o = {b, 0};
-    if (!put_bits(&o, (uint32_t)s->has_e, 1) || !put_constrained(&o, s->a, 4) || !put_constrained(&o, s->b, 8))
+    if (!put_bits(&o, s->has_e, 1) || !put_constrained(&o, s->a, 4) || !put_constrained(&o, s->b, 8))
         return 0;
     if (!put_length(&o, 32))
         return 0;
     push_padding(&o);
-    if (!put_run(&o, s->c, 32) || !put_bits(&o, (uint32_t)s->d, 1))
+    if (!put_run(&o, s->c, 32) || !put_bits(&o, s->d, 1))
         return 0;
     return !s->has_e || put_constrained(&o, s->e, 2);
 }

@@ -23,6 +23,7 @@ static int time_samples(void)
     for (i = 0; i < COUNT; i++) {
         if (!get_sample(&in, &s))
             return 0;
+        keep(&s);
         sum = sum_with(sum, &s);
     }
     tell("read_sequences", now() - start, sum);
