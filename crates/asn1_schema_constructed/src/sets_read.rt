@@ -16,7 +16,6 @@ use std::alloc::Global;
 pub trait DecodeSet: Decoder {
     /// Decodes a SET (X.680 27) of these components, with or without an extension marker; `optional` of its root
     /// components may be absent.
-    #[inline(always)]
     final fn decode_set_components<C: DecodeComponents>(
         &mut self,
         alloc: Global,

@@ -11,7 +11,6 @@ use asn1_values_octets::FixedOctetString;
 use std::alloc::Global;
 
 impl<const N: usize> Decode for FixedBitString<N> {
-    #[inline(always)]
     fn decode_with_tag_and_constraints<D: Decoder>(
         alloc: Global,
         decoder: &mut D,
@@ -26,7 +25,6 @@ impl<const N: usize> Decode for FixedBitString<N> {
 }
 
 impl<const N: usize> Decode for FixedOctetString<N> {
-    #[inline(always)]
     fn decode_with_tag_and_constraints<D: Decoder>(
         alloc: Global,
         decoder: &mut D,
@@ -41,7 +39,6 @@ impl<const N: usize> Decode for FixedOctetString<N> {
 }
 
 // The decoded bits, of which there are exactly `N`.
-#[inline(always)]
 fn fixed_bit_string<const N: usize>(bits: BitString) -> FixedBitString<N>
     requires held { is_count_within (record { low = N; high = Some N }) (length bits) ≡ true }
     ensures { result ≡ bits }
@@ -53,7 +50,6 @@ fn fixed_bit_string<const N: usize>(bits: BitString) -> FixedBitString<N>
 }
 
 // The decoded octets, of which there are exactly `N`.
-#[inline(always)]
 fn fixed_octet_string<const N: usize, O: ReadOctets>(octets: O) -> FixedOctetString<N>
     requires held { is_count_within (record { low = N; high = Some N }) (length (O.items octets)) ≡ true }
     ensures { result ≡ O.items octets }
