@@ -1,16 +1,30 @@
 //! The example of docs/TABLES.md: a table by hand, a message translated, its value walked, and a value built.
-use crate::common::{component, encodes, naming, reads, table};
 use asn1_relay_core::Codec;
 use asn1_schema_constraints::{Bounded, Sizes};
+use asn1_schema_tags::Tag;
 use asn1_table_authoring::{StepError, TapeBuilder};
 use asn1_table_names::{NamedEvents, Names, Part, Role, TypeNames};
-use asn1_table_oer::decode_oer;
+use asn1_table_oer::{decode_oer, encode_oer};
 use asn1_table_relay::recode_by;
 use asn1_table_tape::Event;
-use asn1_table_types::{ComponentTable, NumberLimits, Presence, TypeNode, Types};
+use asn1_table_types::{Component, ComponentTable, NumberLimits, Presence, TypeNode, Types};
 use asn1_values_integers::Integer;
 use oer_codec::oer::EncodingRules;
 use std::alloc::{AllocError, Global};
+
+/// A component with a context-specific tag.
+fn component(
+    alloc: Global,
+    tag: u32,
+    presence: Presence,
+    place: usize,
+) -> Result<Component, AllocError> {
+    Ok(Component {
+        tags: Vec::from_array(alloc, [Tag::new_context(tag)])?,
+        presence,
+        place,
+    })
+}
 
 /// Record ::= SEQUENCE {a BOOLEAN, b INTEGER (-5..5) OPTIONAL, c SEQUENCE OF BOOLEAN}, at index 3.
 fn nodes(alloc: Global) -> Result<Vec<TypeNode>, AllocError> {
@@ -41,13 +55,41 @@ fn nodes(alloc: Global) -> Result<Vec<TypeNode>, AllocError> {
     Ok(Vec::from_array(alloc, nodes)?)
 }
 
-/// Names beside it.
+/// The types, if they are lawful.
+fn table(alloc: Global) -> Option<Types> {
+    match nodes(alloc) {
+        Ok(nodes) => Types::new(alloc, nodes).ok(),
+        Err(_) => None,
+    }
+}
+
+/// Names that are copied.
+fn texts(alloc: Global, names: &[&str]) -> Result<Vec<String>, AllocError> {
+    let mut texts = Vec::new(alloc);
+    for name in names {
+        let text = String::from_str(alloc, name)?;
+        texts.push(text)?;
+    }
+    Ok(texts)
+}
+
+/// The names of the Record and its components.
+fn naming(alloc: Global) -> Result<TypeNames, AllocError> {
+    Ok(TypeNames {
+        name: String::from_str(alloc, "Record")?,
+        root: texts(alloc, &["a", "b", "c"])?,
+        additions: Vec::new(alloc),
+        numbers: Vec::new(alloc),
+    })
+}
+
+/// Names beside the table.
 fn names(alloc: Global) -> Result<Names, AllocError> {
     let types = [
         TypeNames::new(alloc),
         TypeNames::new(alloc),
         TypeNames::new(alloc),
-        naming(alloc, "Record", &["a", "b", "c"], &[])?,
+        naming(alloc)?,
     ];
     Ok(Names {
         types: Vec::from_array(alloc, types)?,
@@ -87,38 +129,64 @@ const OCTETS: [u8; 6] = [0x80, 0xFF, 0x03, 0x01, 0x01, 0xFF];
 
 const PACKED: [u8; 2] = [0xE0, 0x06];
 
+/// The message in UPER.
+fn translated(alloc: Global) -> Option<Vec<u8>> {
+    let types = table(alloc)?;
+    recode_by(alloc, &types, 3, Codec::Coer, Codec::Uper, &OCTETS).ok()
+}
+
+/// How many of the message's components have a name.
+fn walked(alloc: Global) -> Option<usize> {
+    let types = table(alloc)?;
+    let names = names(alloc).ok()?;
+    count_named(alloc, &types, &names, &OCTETS)
+}
+
+/// The octets of the value that is built.
+fn written(alloc: Global) -> Option<Vec<u8>> {
+    let types = table(alloc)?;
+    let tape = built(alloc, &types).ok()?;
+    encode_oer(alloc, &types, tape.as_slice()).ok()
+}
+
+/// Whether octets were made, and they are these.
+fn are(made: Option<Vec<u8>>, octets: &[u8]) -> bool {
+    match made {
+        Some(made) => made.as_slice() == octets,
+        None => false,
+    }
+}
+
 #[test]
 fn translates(rt: HostRuntime) {
-    let alloc = rt.alloc();
-    let types = table(alloc, nodes(alloc)).expect(&rt, "well-formed");
-    let packed = recode_by(alloc, &types, 3, Codec::Coer, Codec::Uper, &OCTETS).expect(&rt, "read");
-    assert!(rt; packed.as_slice() == PACKED.as_slice());
+    assert!(rt; are(translated(rt.alloc()), &PACKED));
 }
 
 #[test]
 fn walks(rt: HostRuntime) {
-    let alloc = rt.alloc();
-    let types = table(alloc, nodes(alloc)).expect(&rt, "well-formed");
-    let names = names(alloc).expect(&rt, "memory");
-    assert!(rt; count_named(alloc, &types, &names, &OCTETS) == Some(3));
+    assert!(rt; walked(rt.alloc()) == Some(3));
 }
 
 #[test]
 fn builds(rt: HostRuntime) {
-    let alloc = rt.alloc();
-    let types = table(alloc, nodes(alloc)).expect(&rt, "well-formed");
-    let names = names(alloc).expect(&rt, "memory");
-    let words = "{ a TRUE b number c { TRUE } } ";
-    assert!(rt; encodes(alloc, &types, built(alloc, &types), &OCTETS));
-    assert!(rt; reads(alloc, &types, &names, 3, built(alloc, &types), words));
+    assert!(rt; are(written(rt.alloc()), &OCTETS));
+}
+
+/// Whether names are found, and others are not.
+fn are_found(types: &Types, names: &Names) -> bool {
+    names.find_type("Record") == Some(3)
+        && names.find_part(types, 3, "b") == Some(Part::Root(1))
+        && names.find_part(types, 3, "d").is_none()
+}
+
+/// Whether the names of the table are found.
+fn found(alloc: Global) -> Option<bool> {
+    let types = table(alloc)?;
+    let names = names(alloc).ok()?;
+    Some(are_found(&types, &names))
 }
 
 #[test]
 fn finds_names(rt: HostRuntime) {
-    let alloc = rt.alloc();
-    let types = table(alloc, nodes(alloc)).expect(&rt, "well-formed");
-    let names = names(alloc).expect(&rt, "memory");
-    assert!(rt; names.find_type("Record") == Some(3));
-    assert!(rt; names.find_part(&types, 3, "b") == Some(Part::Root(1)));
-    assert!(rt; names.find_part(&types, 3, "d").is_none());
+    assert!(rt; found(rt.alloc()) == Some(true));
 }

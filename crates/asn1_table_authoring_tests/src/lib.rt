@@ -1,13 +1,7 @@
-//! Tests of values of the types of a table that are built and walked, and the example of docs/TABLES.md.
+//! The example of docs/TABLES.md, and tests of what the rows of `asn1_table_rows` cannot say.
 #![tactic(auto)]
 
 #[cfg(test)]
-mod common;
-#[cfg(test)]
 mod example;
 #[cfg(test)]
-mod parts;
-#[cfg(test)]
-mod refusals;
-#[cfg(test)]
-mod values;
+mod others;
