@@ -154,8 +154,9 @@ pub fn base_of<'a>(
                 base.at.index = *inner;
             }
             TypeKind::Reference(reference) => {
-                (base.symbol, base.at) = referenced(files, at.scope, reference, MOST_LEVELS)?;
-                add_value_set(&mut base.constraints, files, base.symbol, base.at.scope)?;
+                let (symbol, next) = referenced(files, at.scope, reference, MOST_LEVELS)?;
+                add_value_set(&mut base.constraints, files, symbol, next.scope)?;
+                (base.symbol, base.at) = (symbol, next);
             }
             kind => match field_type(files, at.scope, kind)? {
                 Some(next) => (base.symbol, base.at) = (None, next),
