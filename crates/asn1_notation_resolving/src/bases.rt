@@ -5,7 +5,7 @@ use asn1_notation_names::{
     Files, NotationError, Problem, Scope, Symbol, TypeUse, referenced, type_of_field,
 };
 use asn1_notation_tree::{
-    ConstraintIndex, Tagging, TaggingMode, TypeKind, TypeTerm, UnsupportedType,
+    AssignmentKind, ConstraintIndex, Tagging, TaggingMode, TypeKind, TypeTerm, UnsupportedType,
 };
 use std::alloc::Global;
 
@@ -64,6 +64,27 @@ fn add_constraints(
             scope,
             index: term.constraints[count - 1 - back],
         })?;
+    }
+    Ok(())
+}
+
+/// Adds the constraint that a set of values is, if the assignment of a type is one (X.680 16.6).
+fn add_value_set(
+    all: &mut Vec<ConstraintUse>,
+    files: &Files<'_, '_>,
+    symbol: Option<Symbol>,
+    scope: Scope,
+) -> Result<(), NotationError> {
+    let Some(symbol) = symbol else {
+        return Ok(());
+    };
+    if let Some(assignment) = files.assignment(symbol) {
+        if let AssignmentKind::ValueSet(_, index) = &assignment.kind {
+            all.push(ConstraintUse {
+                scope,
+                index: *index,
+            })?;
+        }
     }
     Ok(())
 }
@@ -133,7 +154,9 @@ pub fn base_of<'a>(
                 base.at.index = *inner;
             }
             TypeKind::Reference(reference) => {
-                (base.symbol, base.at) = referenced(files, at.scope, reference, MOST_LEVELS)?;
+                let (symbol, next) = referenced(files, at.scope, reference, MOST_LEVELS)?;
+                add_value_set(&mut base.constraints, files, symbol, next.scope)?;
+                (base.symbol, base.at) = (symbol, next);
             }
             kind => match field_type(files, at.scope, kind)? {
                 Some(next) => (base.symbol, base.at) = (None, next),

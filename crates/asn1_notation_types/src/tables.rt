@@ -3,8 +3,10 @@ ghost use Rattle.std.specs.Prelude.{◌<◌, ◌≤◌, IfErr, IfSome, length, s
 
 use crate::building::{Building, Origin};
 use crate::endless::endless_type;
-use asn1_notation_resolving::{Files, Index, NotationError, Problem, type_of_symbol};
-use asn1_notation_tree::Syntax;
+use asn1_notation_resolving::{
+    Files, Index, NotationError, Problem, Symbol, TypeUse, type_of_symbol,
+};
+use asn1_notation_tree::{AssignmentKind, Syntax};
 use asn1_table_names::Names;
 use asn1_table_types::{TableError, Types};
 use std::alloc::Global;
@@ -100,6 +102,21 @@ fn located(files: &[Syntax], error: NotationError) -> NotationError
     }
 }
 
+/// The type that is asked for. A set of values (X.680 16.6) is a type for references only.
+fn root_of(files: &Files<'_, '_>, symbol: Symbol) -> Result<TypeUse, NotationError> {
+    let at = type_of_symbol(files, symbol)?;
+    if let Some(assignment) = files.assignment(symbol) {
+        if let AssignmentKind::ValueSet(..) = &assignment.kind {
+            return Err(
+                symbol
+                    .scope
+                    .error(assignment.name.place, Problem::UnsupportedType),
+            );
+        }
+    }
+    Ok(at)
+}
+
 /// The table of a type.
 fn built(
     alloc: Global,
@@ -112,7 +129,7 @@ fn built(
     index.check_names(files)?;
     let files = Files::new(alloc, files, &index);
     let symbol = files.find_type(module, name)?;
-    let at = type_of_symbol(&files, symbol)?;
+    let at = root_of(&files, symbol)?;
     let mut building = Building::new(alloc, files, options);
     let place = building.place_of(at)?;
     building.build_all()?;
