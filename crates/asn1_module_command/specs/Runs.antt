@@ -13,7 +13,7 @@ use Rattle.asn1_relay_core.specs.declared.codec.Codec.{Codec}
 use Rattle.asn1_schema_laws.specs.Tables.{IsValue}
 use Rattle.asn1_table_routes.specs.Schemas.{IsNewer, newer_of, older_of}
 use Rattle.asn1_table_routes.specs.declared.versions.Versions.{Versions}
-use Rattle.asn1_table_types.specs.Meaning.{type_at}
+use Rattle.asn1_table_nodes.specs.Meaning.{type_at}
 use Rattle.asn1_module_command.specs.Checks.{HasChecked, StopsChecking}
 use Rattle.asn1_module_command.specs.declared.errors.CommandError.{CommandError}
 use Rattle.asn1_module_command.specs.declared.errors.CommandError.TheVariants as error
