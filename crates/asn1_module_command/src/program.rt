@@ -190,27 +190,34 @@ fn act<R: Read, W: Write>(
     let (modules, older) = files.split_at(count);
     let table = table_named(alloc, modules, name, order.options)?;
     match &order.action {
-        Action::Translate(translation) => translate(alloc, &table, *translation, input, output)?,
+        Action::Translate(translation) => {
+            translate(alloc, &table, *translation, input, output)?;
+            Ok(())
+        }
         Action::Check {
             rules,
             is_hexadecimal,
-        } => check(
-            Typed {
-                alloc,
-                table: &table,
-            },
-            *rules,
-            *is_hexadecimal,
-            input,
-            output,
-        )?,
+        } => {
+            let table = &table;
+            check(
+                Typed { alloc, table },
+                *rules,
+                *is_hexadecimal,
+                input,
+                output,
+            )?;
+            Ok(())
+        }
         Action::Route(route) => {
             let older = older_table(alloc, older, count, name, order.options)?;
-            send_between(alloc, &older, &table, route, input, output)?
+            send_between(alloc, &older, &table, route, input, output)?;
+            Ok(())
         }
-        Action::Print => print(alloc, &table, output)?,
+        Action::Print => {
+            print(alloc, &table, output)?;
+            Ok(())
+        }
     }
-    Ok(())
 }
 
 /// Says that a message, the whole input, is canonical.
