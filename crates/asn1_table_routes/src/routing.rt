@@ -5,7 +5,7 @@ ghost use Rattle.asn1_relay_core.specs.Routing.{Outcome, Comes, IsReached, IsCan
 ghost use Rattle.asn1_relay_core.specs.Routing.{IsOrLacksMemory, NamesMemoryAlone, NamesNoEarlierRefusal};
 ghost use Rattle.asn1_relay_core.specs.Routing.{NamesNoMisplacedCall, NamesNoPlatformSize};
 ghost use Rattle.asn1_relay_core.specs.Routing.{outcome_of};
-ghost use Rattle.asn1_table_routes.specs.Schemas.{older_of, newer_of};
+ghost use Rattle.asn1_table_routes.specs.Schemas.{IsNewer, older_of, newer_of};
 
 use crate::Versions;
 use asn1_relay_core::{Codec, Hop, RouteFault, route_of};
@@ -25,7 +25,8 @@ pub fn route_by(
     from: Codec,
     input: &[u8],
 ) -> Result<Vec<u8>, RouteFault>
-    requires { hops.now ≢ [] }
+    requires some { hops.now ≢ [] }
+    requires newer { IsNewer versions.now }
     ensures right { IfSome (outcome_of result)
         (Comes (older_of versions.now) (newer_of versions.now) from hops.now input.now) }
     ensures exact { (o : Outcome) → Comes (older_of versions.now) (newer_of versions.now) from hops.now input.now o
