@@ -11,7 +11,7 @@ use Rattle.asn1_relay_command.specs.declared.fault.Fault.{Fault}
 use Rattle.asn1_relay_core.specs.Coding.{IsWritten, rules_of}
 use Rattle.asn1_relay_core.specs.declared.codec.Codec.{Codec}
 use Rattle.asn1_schema_laws.specs.Tables.{IsValue}
-use Rattle.asn1_table_routes.specs.Schemas.{newer_of, older_of}
+use Rattle.asn1_table_routes.specs.Schemas.{IsNewer, newer_of, older_of}
 use Rattle.asn1_table_routes.specs.declared.versions.Versions.{Versions}
 use Rattle.asn1_table_nodes.specs.Meaning.{type_at}
 use Rattle.asn1_module_command.specs.Checks.{HasChecked, StopsChecking}
@@ -136,6 +136,7 @@ pub record OfType (P : Schema → Type 0) : Type 0 where
 -- this holds of two types of such tables, of which one is a newer version of the other (X.680 52)
 pub record OfVersions (P : Versions → Type 0) : Type 0 where
   pub versions : Versions
+  pub newer : IsNewer versions
   pub holds : P versions
 
 -- what was requested of a type is done; nothing is said of a message in hexadecimal digits, and of a type that is

@@ -2,7 +2,7 @@
 ghost use Rattle.std.specs.Prelude.{◌≡◌, ◌≢◌, [], MatchResult, false};
 ghost use Rattle.asn1_relay_command.specs.Runs.{ComesAs, DoesRouteAs, IsTurnedBackAs, StopsRouteAs};
 ghost use Rattle.asn1_relay_core.specs.Routing.{arrived};
-ghost use Rattle.asn1_table_routes.specs.Schemas.{newer_of, older_of};
+ghost use Rattle.asn1_table_routes.specs.Schemas.{IsNewer, newer_of, older_of};
 ghost use Rattle.asn1_module_command.specs.Runs.{HasRouted, OfVersions, StopsRouting, StopsSending};
 
 use crate::errors::{CommandError, Stop};
@@ -49,7 +49,8 @@ fn send<R: Read, W: Write>(
     input: &mut R,
     output: &mut W,
 ) -> Result<(), CommandError>
-    requires { route.now.hops.items ≢ [] }
+    requires some { route.now.hops.items ≢ [] }
+    requires newer { IsNewer versions.now }
     ensures { MatchResult result
         (λ _. HasRouted route.now versions.now
         (R.remaining input.old) (R.remaining input.new) (W.contents output.old) (W.contents output.new))
@@ -75,7 +76,8 @@ fn send_digits<R: Read, W: Write>(
     input: &mut R,
     output: &mut W,
 ) -> Result<(), CommandError>
-    requires { hops.now ≢ [] }
+    requires some { hops.now ≢ [] }
+    requires newer { IsNewer versions.now }
 {
     let text = read_all(alloc, input)?;
     let message = octets_of(alloc, text.as_slice())?;
@@ -94,7 +96,8 @@ fn send_octets<R: Read, W: Write>(
     input: &mut R,
     output: &mut W,
 ) -> Result<(), Fault>
-    requires { hops.now ≢ [] }
+    requires some { hops.now ≢ [] }
+    requires newer { IsNewer versions.now }
     ensures { MatchResult result
         (λ _. DoesRouteAs (older_of versions.now 128) (newer_of versions.now 128) from hops.now
         (R.remaining input.old) (R.remaining input.new) (W.contents output.old) (W.contents output.new))
@@ -114,7 +117,8 @@ fn sent(
     hops: &[Hop],
     message: &[u8],
 ) -> Result<Vec<u8>, Fault>
-    requires { hops.now ≢ [] }
+    requires some { hops.now ≢ [] }
+    requires newer { IsNewer versions.now }
     ensures { MatchResult result
         (λ v. ComesAs (older_of versions.now 128) (newer_of versions.now 128) from hops.now message.now
         (arrived v.items))
