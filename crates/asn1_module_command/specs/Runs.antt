@@ -120,6 +120,12 @@ abbrev pub StopsRouting : Route → Versions → Known → Known → Known → K
 StopsRouting r v unread unread' held held' e =
     r.is_hexadecimal ≡ false → StopsBetween r v unread unread' held held' e
 
+-- this holds of two types of tables, of which one is a newer version of the other (X.680 52)
+pub record OfVersions (P : Versions → Type 0) : Type 0 where
+  pub versions : Versions
+  pub newer : IsNewer versions
+  pub holds : P versions
+
 -- nothing was read and nothing written, since there are no two such versions, or else such an error stops this
 abbrev pub StopsSending : Route → Known → Known → Known → Known → Stop → Type 0
 StopsSending r unread unread' held held' (stop.Module e) = IsUntouched unread unread' held held'
@@ -132,12 +138,6 @@ StopsSending r unread unread' held held' (stop.Command e) =
 pub record OfType (P : Schema → Type 0) : Type 0 where
   pub table : Table
   pub holds : P (schema_in table)
-
--- this holds of two types of such tables, of which one is a newer version of the other (X.680 52)
-pub record OfVersions (P : Versions → Type 0) : Type 0 where
-  pub versions : Versions
-  pub newer : IsNewer versions
-  pub holds : P versions
 
 -- what was requested of a type is done; nothing is said of a message in hexadecimal digits, and of a type that is
 -- printed
