@@ -2,8 +2,9 @@
 ghost use Rattle.std.specs.Prelude.{◌≡◌, ◌≤◌, MatchResult, false};
 ghost use Rattle.asn1_relay_command.specs.Runs.{IsUntouched};
 ghost use Rattle.asn1_module_command.specs.Checks.{HasChecked, IsSaid, StopsChecking, StopsSaying};
-ghost use Rattle.asn1_module_command.specs.Runs.{HasDone, HasFailed, StopsAt, schema_in};
-ghost use Rattle.asn1_module_order.specs.Orders.{CanBeDone};
+ghost use Rattle.asn1_module_command.specs.Runs.{HasDone, HasFailed, HasTranslated, OfType, StopsAt, StopsTranslating};
+ghost use Rattle.asn1_module_command.specs.Runs.{schema_in};
+ghost use Rattle.asn1_module_order.specs.Orders.{CanBeDone, IsBounded};
 
 use crate::checking::check_canonical;
 use crate::errors::{CommandError, Stop};
@@ -11,7 +12,7 @@ use crate::hexadecimal::octets_of;
 use crate::routing::send_between;
 use crate::translating::translate;
 use crate::values::Typed;
-use asn1_module_order::{Action, Order, read_order};
+use asn1_module_order::{Action, Order, Translation, read_order};
 use asn1_module_tables::{Source, older_table, read_files, table_named, write_module_error};
 use asn1_notation_printing::{list_types, print_type};
 use asn1_notation_syntax::Syntax;
@@ -191,21 +192,14 @@ fn act<R: Read, W: Write>(
     let table = table_named(alloc, modules, name, order.options)?;
     match &order.action {
         Action::Translate(translation) => {
-            translate(alloc, &table, *translation, input, output)?;
+            translate_as(alloc, &table, *translation, input, output)?;
             Ok(())
         }
         Action::Check {
             rules,
             is_hexadecimal,
         } => {
-            let table = &table;
-            check(
-                Typed { alloc, table },
-                *rules,
-                *is_hexadecimal,
-                input,
-                output,
-            )?;
+            check_as(alloc, &table, *rules, *is_hexadecimal, input, output)?;
             Ok(())
         }
         Action::Route(route) => {
@@ -218,6 +212,42 @@ fn act<R: Read, W: Write>(
             Ok(())
         }
     }
+}
+
+/// Translates what was requested, as messages of the type of a table.
+fn translate_as<R: Read, W: Write>(
+    alloc: Global,
+    table: &Table,
+    translation: Translation,
+    input: &mut R,
+    output: &mut W,
+) -> Result<(), CommandError>
+    requires { IsBounded translation.extent }
+    ensures { MatchResult result
+        (λ _. OfType (λ s. HasTranslated translation s
+        (R.remaining input.old) (R.remaining input.new) (W.contents output.old) (W.contents output.new)))
+        (λ e. OfType (λ s. StopsTranslating translation s
+        (R.remaining input.old) (R.remaining input.new) (W.contents output.old) (W.contents output.new) e)) }
+{
+    translate(alloc, table, translation, input, output)
+}
+
+/// Says that a message of the type of a table, the whole input, is canonical.
+fn check_as<R: Read, W: Write>(
+    alloc: Global,
+    table: &Table,
+    rules: Codec,
+    is_hexadecimal: bool,
+    input: &mut R,
+    output: &mut W,
+) -> Result<(), CommandError>
+    ensures { MatchResult result
+        (λ _. OfType (λ s. is_hexadecimal ≡ false → HasChecked s rules
+        (R.remaining input.old) (R.remaining input.new) (W.contents output.old) (W.contents output.new)))
+        (λ e. OfType (λ s. is_hexadecimal ≡ false → StopsChecking s rules
+        (R.remaining input.old) (R.remaining input.new) (W.contents output.old) (W.contents output.new) e)) }
+{
+    check(Typed { alloc, table }, rules, is_hexadecimal, input, output)
 }
 
 /// Says that a message, the whole input, is canonical.
