@@ -1,5 +1,4 @@
-//! Streams: runs whose reader or writer fails at each call in turn, a relay after its error, long streams, and values
-//! in sequence.
+//! Streams: runs whose reader or writer fails at each call in turn, a relay after its error, and values in sequence.
 use crate::assertions::assert_same;
 use crate::fakes::Octets;
 use asn1_relay_core::{
@@ -9,7 +8,6 @@ use asn1_relay_types::{New, Small};
 use asn1_schema::making::iter;
 use asn1_schema::{Decode, Encode, FrontReader, Iter};
 use asn1_values_integers::Integer;
-use asn1_values_octets::OctetString;
 use oer_codec::{CoerFront, OerFront};
 use per_codec::{AperFront, AperStrictFront, UperFront, UperStrictFront};
 use std::alloc::{AllocError, Global};
@@ -209,107 +207,6 @@ fn has_a_limit(alloc: Global) -> bool {
 #[test]
 fn a_relay_behind_its_fault(rt: HostRuntime) {
     assert!(rt; has_a_limit(rt.alloc()));
-}
-
-/// The result of a relay that waits or stops at its second message.
-fn at_second(kind: RelayFaultKind) -> Result<(), RelayFault> {
-    Err(RelayFault { number: 1, kind })
-}
-
-/// Whether a relay accepts -4 as it is encoded, waits after the same number with other padding, and stops at the next
-/// octet (X.691 11.1).
-fn reads_strictly(alloc: Global, rules: Codec) -> bool {
-    let mut relay = Relay::<Small>::new(alloc, rules, Codec::Coer, 1);
-    let mut out = Vec::new(alloc);
-    relay.feed(&[0x10], &mut out) == Ok(())
-        && relay.feed(&[0x17], &mut out) == Ok(())
-        && relay.finish() == at_second(RelayFaultKind::NoForm)
-        && relay.feed(&[0x10], &mut out) == at_second(RelayFaultKind::NoneWithinLimit)
-        && relay.has_failed()
-        && out.as_slice() == [0xFC].as_slice()
-}
-
-#[test]
-fn a_relay_that_reads_strictly(rt: HostRuntime) {
-    let alloc = rt.alloc();
-    assert!(rt; reads_strictly(alloc, Codec::UperStrict));
-    assert!(rt; reads_strictly(alloc, Codec::AperStrict));
-    assert!(rt; !reads_strictly(alloc, Codec::Uper) && !reads_strictly(alloc, Codec::Aper));
-}
-
-/// Whether octets are fed and become `wanted`, and the stream may end there.
-fn is_relayed<T: Encode + Decode>(
-    relay: &mut Relay<T>,
-    out: &mut Vec<u8>,
-    octets: &[u8],
-    wanted: &[u8],
-) -> bool {
-    relay.feed(octets, out) == Ok(()) && relay.finish() == Ok(()) && out.as_slice() == wanted
-}
-
-/// Whether 100000 messages in one piece are relayed.
-fn are_many_relayed(alloc: Global) -> Result<bool, AllocError> {
-    let octets = vec![in alloc; 0xFCu8; 100_000]?;
-    let wanted = vec![in alloc; 0x10u8; 100_000]?;
-    let mut relay = Relay::<Small>::new(alloc, Codec::Coer, Codec::Uper, 1);
-    Ok(is_relayed(&mut relay, &mut Vec::new(alloc), &octets, &wanted))
-}
-
-/// Feeds octets one by one. Returns whether the relay waits for more after each.
-fn waits_for_more<T: Encode + Decode>(
-    relay: &mut Relay<T>,
-    out: &mut Vec<u8>,
-    octets: &[u8],
-) -> bool {
-    for octet in octets {
-        if relay.feed(&[*octet], out).is_err() {
-            return false;
-        }
-    }
-    relay.unread_len() == octets.len() && out.is_empty()
-}
-
-/// An octet string of 1000 octets after its length determinant, and one of one octet after its own, in OER or PER.
-fn strings(alloc: Global, length: &[u8]) -> Result<Vec<u8>, AllocError> {
-    let mut octets = Vec::from_slice(alloc, length)?;
-    octets.extend_from_slice(&[0x5A; 1000])?;
-    octets.extend_from_slice(&[0x01, 0x07])?;
-    Ok(octets)
-}
-
-/// Whether a message is relayed that arrives in 1000 pieces of one octet and a last piece that includes another
-/// message.
-fn is_pieced_together(
-    relay: &mut Relay<OctetString>,
-    out: &mut Vec<u8>,
-    octets: &[u8],
-    wanted: &[u8],
-) -> bool {
-    let (pieces, last) = octets.split_at(1000.min(octets.len()));
-    waits_for_more(relay, out, pieces) && is_relayed(relay, out, last, wanted)
-}
-
-/// Whether an octet string of 1000 octets and one of one octet are relayed like that.
-fn is_long_relayed(alloc: Global) -> Result<bool, AllocError> {
-    let octets = strings(alloc, &[0x82, 0x03, 0xE8])?;
-    let wanted = strings(alloc, &[0x83, 0xE8])?;
-    let mut relay = Relay::<OctetString>::new(alloc, Codec::Coer, Codec::Uper, 1003);
-    Ok(is_pieced_together(&mut relay, &mut Vec::new(alloc), &octets, &wanted))
-}
-
-/// Whether the same octet strings are relayed from strict rules.
-fn is_long_read_strictly(alloc: Global) -> Result<bool, AllocError> {
-    let octets = strings(alloc, &[0x83, 0xE8])?;
-    let wanted = strings(alloc, &[0x82, 0x03, 0xE8])?;
-    let mut relay = Relay::<OctetString>::new(alloc, Codec::UperStrict, Codec::Coer, 1002);
-    Ok(is_pieced_together(&mut relay, &mut Vec::new(alloc), &octets, &wanted))
-}
-
-#[test]
-fn long_streams(rt: HostRuntime) {
-    assert!(rt; are_many_relayed(rt.alloc()) == Ok(true));
-    assert!(rt; is_long_relayed(rt.alloc()) == Ok(true));
-    assert!(rt; is_long_read_strictly(rt.alloc()) == Ok(true));
 }
 
 /// Whether the next value is this number, or there is none yet.

@@ -5,5 +5,7 @@
 pub mod cuts;
 pub mod judged;
 pub mod judging;
+pub mod relays;
 pub mod routes;
 pub mod streams;
+pub mod tables;

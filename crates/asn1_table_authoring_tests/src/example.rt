@@ -96,6 +96,13 @@ fn translates(rt: HostRuntime) {
 }
 
 #[test]
+fn refuses_an_index_outside_the_table(rt: HostRuntime) {
+    let alloc = rt.alloc();
+    let types = table(alloc, nodes(alloc)).expect(&rt, "well-formed");
+    assert!(rt; recode_by(alloc, &types, 4, Codec::Coer, Codec::Uper, &OCTETS).is_err());
+}
+
+#[test]
 fn walks(rt: HostRuntime) {
     let alloc = rt.alloc();
     let types = table(alloc, nodes(alloc)).expect(&rt, "well-formed");
