@@ -11,7 +11,7 @@ use Rattle.asn1_relay_command.specs.declared.fault.Fault.{Fault}
 use Rattle.asn1_relay_core.specs.Coding.{IsWritten, rules_of}
 use Rattle.asn1_relay_core.specs.declared.codec.Codec.{Codec}
 use Rattle.asn1_schema_laws.specs.Tables.{IsValue}
-use Rattle.asn1_table_types.specs.Meaning.{type_at}
+use Rattle.asn1_table_nodes.specs.Meaning.{type_at}
 use Rattle.asn1_module_command.specs.Checks.{HasChecked, StopsChecking}
 use Rattle.asn1_module_command.specs.declared.errors.CommandError.{CommandError}
 use Rattle.asn1_module_command.specs.declared.errors.CommandError.TheVariants as error

@@ -1,7 +1,7 @@
 //! Translation between encoding rules of ASN.1: of one message (`recode`), of streams of messages in pieces of any
 //! length (`Relay`, `run`), and of messages that pass from hop to hop, each of which knows the older or the newer
 //! version of their type (`route`). The type is a Rust type, or one that is known only at run time (`MessageType`:
-//! `recode_of`, `RelayOf`, `run_of`).
+//! `recode_of`, `RelayOf`, `run_of`, `route_of`).
 #![tactic(auto)]
 
 mod codec;
@@ -32,7 +32,7 @@ pub use message_type::{MessageSchema, MessageType};
 pub use older_relay::older_relay_is_told;
 pub use relay::RelayOf;
 pub use route_fault::{RouteFault, RouteFaultKind};
-pub use routing::route;
+pub use routing::{route, route_of};
 pub use running::{RunFault, run, run_of};
 pub use rust_type::RustType;
 pub use standard::{StdSink, StdSource, write_octets};

@@ -8,7 +8,7 @@ ghost use Rattle.asn1_relay_core.specs.Routing.{answer_of_hop, outcome_of};
 
 use crate::hop::{Hop, Version};
 use crate::route_fault::{RouteFault, RouteFaultKind};
-use crate::{Codec, recode};
+use crate::{Codec, MessageType, RustType, recode_of};
 use asn1_schema_decode::Decode;
 use asn1_schema_encode::Encode;
 use asn1_schema_types::Extends;
@@ -60,25 +60,63 @@ pub fn route<Old: Encode + Decode, New: Encode + Decode + Extends<Old>>(
     ensures fits { IfErr result (λ fault. NamesNoPlatformSize fault.kind) }
     ensures reached { IfErr result (λ fault. IsReached Old.schema New.schema from hops.now input.now fault.hop) }
 {
-    let mut octets = pass::<Old, New>(alloc, 0, from, hops[0], input)?;
+    route_of(
+        alloc,
+        &RustType::<Old>::new(),
+        &RustType::<New>::new(),
+        hops,
+        from,
+        input,
+    )
+}
+
+/// As `route`, for messages of two types that are passed.
+///
+/// # Errors
+///
+/// As for `route`.
+pub fn route_of<Old: MessageType, New: MessageType>(
+    alloc: Global,
+    older: &Old,
+    newer: &New,
+    hops: &[Hop],
+    from: Codec,
+    input: &[u8],
+) -> Result<Vec<u8>, RouteFault>
+    requires { hops.now ≢ [] }
+    ensures right { IfSome (outcome_of result)
+        (Comes (Old.schema older.now) (New.schema newer.now) from hops.now input.now) }
+    ensures exact { (o : Outcome) → Comes (Old.schema older.now) (New.schema newer.now) from hops.now input.now o
+        → IsOrLacksMemory (outcome_of result) o }
+    ensures memory { IfErr result (λ fault. NamesMemoryAlone fault.kind) }
+    ensures fresh { IfErr result (λ fault. NamesNoEarlierRefusal fault.kind) }
+    ensures in_place { IfErr result (λ fault. NamesNoMisplacedCall fault.kind) }
+    ensures fits { IfErr result (λ fault. NamesNoPlatformSize fault.kind) }
+    ensures reached { IfErr result
+        (λ fault. IsReached (Old.schema older.now) (New.schema newer.now) from hops.now input.now fault.hop) }
+{
+    let mut octets = pass(alloc, older, newer, 0, from, hops[0], input)?;
     let mut rules = hops[0].to;
     for place in 1..hops.len() {
         let hop = hops[place];
-        octets = pass::<Old, New>(alloc, place, rules, hop, octets.as_slice())?;
+        octets = pass(alloc, older, newer, place, rules, hop, octets.as_slice())?;
         rules = hop.to;
     }
     Ok(octets)
 }
 
 /// The output of the hop with the index `place`, for octets in the rules `from`.
-fn pass<Old: Encode + Decode, New: Encode + Decode>(
+fn pass<Old: MessageType, New: MessageType>(
     alloc: Global,
+    older: &Old,
+    newer: &New,
     place: usize,
     from: Codec,
     hop: Hop,
     input: &[u8],
 ) -> Result<Vec<u8>, RouteFault>
-    ensures right { IfSome (answer_of_hop result) (Answers Old.schema New.schema from hop input.now) }
+    ensures right { IfSome (answer_of_hop result)
+        (Answers (Old.schema older.now) (New.schema newer.now) from hop input.now) }
     ensures memory { IfErr result (λ fault. NamesMemoryAlone fault.kind) }
     ensures fresh { IfErr result (λ fault. NamesNoEarlierRefusal fault.kind) }
     ensures in_place { IfErr result (λ fault. NamesNoMisplacedCall fault.kind) }
@@ -86,8 +124,8 @@ fn pass<Old: Encode + Decode, New: Encode + Decode>(
     ensures named { IfErr result (λ fault. fault.hop ≡ place) }
 {
     let recoded = match hop.version {
-        Version::Old => recode::<Old>(alloc, from, hop.to, input),
-        Version::New => recode::<New>(alloc, from, hop.to, input),
+        Version::Old => recode_of(alloc, older, from, hop.to, input),
+        Version::New => recode_of(alloc, newer, from, hop.to, input),
     };
     match recoded {
         Ok(octets) => Ok(octets),

@@ -2,7 +2,7 @@
 #![tactic(auto, using(std::proofs::lemmas::Grind::common_steps))]
 
 ghost use Rattle.std.specs.Prelude.{◌≡◌, IfOk};
-ghost use Rattle.asn1_table_types.specs.Meaning.{type_at};
+ghost use Rattle.asn1_table_nodes.specs.Meaning.{type_at};
 ghost use Rattle.asn1_table_building.specs.Built.{IsTapeOf};
 ghost use Rattle.asn1_table_authoring.specs.Steps.{IsSameType};
 

@@ -35,8 +35,8 @@ use Rattle.asn1_table_tape.specs.declared.strings.CharacterString.{CharacterStri
 use Rattle.asn1_table_tape.specs.declared.tape.Event.{Event}
 use Rattle.asn1_table_tape.specs.declared.tape.Event.TheVariants.{Number, Item, Bits, Octets, Text, ListBegins, ChoiceBegins}
 use Rattle.asn1_table_types.specs.Choices.{tags_at}
-use Rattle.asn1_table_types.specs.declared.nodes.TypeNode.{TypeNode}
-use Rattle.asn1_table_types.specs.declared.nodes.TypeNode.TheVariants as node
+use Rattle.asn1_table_nodes.specs.declared.nodes.TypeNode.{TypeNode}
+use Rattle.asn1_table_nodes.specs.declared.nodes.TypeNode.TheVariants as node
 use Rattle.asn1_table_walker.proofs.Told.{value_of}
 
 -- ---- kept

@@ -13,7 +13,7 @@ use Rattle.asn1_table_building.specs.declared.errors.BuildError.{BuildError}
 use Rattle.asn1_table_building.specs.declared.errors.BuildError.TheVariants.{OutOfMemory}
 use Rattle.asn1_table_tape.specs.Records.{records_of}
 use Rattle.asn1_table_tape.specs.declared.tape.Event.{Event}
-use Rattle.asn1_table_types.specs.declared.nodes.TypeNode.{TypeNode}
+use Rattle.asn1_table_nodes.specs.declared.nodes.TypeNode.{TypeNode}
 
 -- A decoder of the records of some events, as the plain codec keeps them, that has taken none: it finds a number with
 -- its bounds, a string with its size and an item by its number, at most 128 nested levels, and any count of elements

@@ -9,7 +9,7 @@ ghost use Rattle.asn1_model.specs.Numbers.{admits, is_within, is_count_within};
 ghost use Rattle.asn1_model.specs.Strings.{is_identifier, is_octet, may_hold};
 ghost use Rattle.asn1_schema_constraints.specs.Terms.{size_of};
 ghost use Rattle.asn1_table_types.specs.Choices.{tags_at};
-ghost use Rattle.asn1_table_types.specs.Meaning.{bounds_in, held_in};
+ghost use Rattle.asn1_table_nodes.specs.Meaning.{bounds_in, held_in};
 ghost use Rattle.asn1_table_tape.specs.Records.{record_of, number_record, item_record, bits_record, octets_record};
 ghost use Rattle.asn1_table_tape.specs.Records.{text_record, list_record, choice_record};
 ghost use Rattle.asn1_table_tape.specs.Strings.{kind_in, text_of};

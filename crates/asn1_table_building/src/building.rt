@@ -4,7 +4,7 @@
 ghost use Rattle.std.specs.Prelude.{◌≡◌, IfOk, IfErr, IfSome, map};
 ghost use Rattle.asn1_schema_records.specs.Kept.{kept, record_of};
 ghost use Rattle.asn1_table_tape.specs.Records.{records_of};
-ghost use Rattle.asn1_table_types.specs.Meaning.{type_at};
+ghost use Rattle.asn1_table_nodes.specs.Meaning.{type_at};
 ghost use Rattle.asn1_table_building.specs.Built.{IsBuilt, NotBuilt};
 
 use crate::BuildError;

@@ -13,15 +13,15 @@ use Rattle.asn1_model.specs.Tidy.{is_tidy, are_tidy, has_normal_default}
 use Rattle.asn1_model.specs.Versions.{grow, Begins, KeepsPresence, Extends, ExtendsEach, ExtendsAlternatives}
 use Rattle.asn1_laws_values.proofs.Normal.{normal_stays}
 use Rattle.asn1_schema_tags.specs.Tags.{tag_of}
-use Rattle.asn1_table_types.specs.Meaning.{kind_of, presence_of, components_of, alternatives_of, type_of, type_at}
+use Rattle.asn1_table_nodes.specs.Meaning.{kind_of, presence_of, components_of, alternatives_of, type_of, type_at}
 use Rattle.asn1_table_types.specs.Tables.{AreLawful, AreTidy}
-use Rattle.asn1_table_types.specs.Values.{value_of}
-use Rattle.asn1_table_types.specs.declared.nodes.Alternative.{Alternative}
-use Rattle.asn1_table_types.specs.declared.nodes.Component.{Component}
-use Rattle.asn1_table_types.specs.declared.nodes.Presence.{Presence}
-use Rattle.asn1_table_types.specs.declared.nodes.Presence.TheVariants.{Required, Optional, Default}
-use Rattle.asn1_table_types.specs.declared.nodes.TypeNode.{TypeNode}
-use Rattle.asn1_table_types.specs.declared.nodes.TypeNode.TheVariants as node
+use Rattle.asn1_table_nodes.specs.Values.{value_of}
+use Rattle.asn1_table_nodes.specs.declared.nodes.Alternative.{Alternative}
+use Rattle.asn1_table_nodes.specs.declared.nodes.Component.{Component}
+use Rattle.asn1_table_nodes.specs.declared.nodes.Presence.{Presence}
+use Rattle.asn1_table_nodes.specs.declared.nodes.Presence.TheVariants.{Required, Optional, Default}
+use Rattle.asn1_table_nodes.specs.declared.nodes.TypeNode.{TypeNode}
+use Rattle.asn1_table_nodes.specs.declared.nodes.TypeNode.TheVariants as node
 use Rattle.asn1_table_extending.specs.Matching.{IsListed, PresencesMatch, ComponentMatches, MayFollow, ComponentsMatch, AlternativesMatch, NodesMatch, BothMatch, PairMatches, ScalarsMatch}
 use Rattle.asn1_table_extending.specs.declared.pairs.Pair.{Pair}
 use Rattle.asn1_table_extending.proofs.Staying.{stays}

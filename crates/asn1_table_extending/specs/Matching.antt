@@ -4,19 +4,19 @@ use Rattle.std.specs.Prelude.{◌≡◌, ℕ, Bool, true, false, List, [], ◌�
 use Rattle.asn1_model.specs.Value.{same}
 use Rattle.asn1_model.specs.Versions.{Begins}
 use Rattle.asn1_schema_constraints.specs.Terms.{size_of}
-use Rattle.asn1_table_types.specs.Meaning.{alphabet_in, bounds_in, held_in}
-use Rattle.asn1_table_types.specs.Values.{value_of}
-use Rattle.asn1_table_types.specs.declared.nodes.Alternative.{Alternative}
-use Rattle.asn1_table_types.specs.declared.nodes.AlternativeTable.{AlternativeTable}
-use Rattle.asn1_table_types.specs.declared.nodes.Component.{Component}
-use Rattle.asn1_table_types.specs.declared.nodes.ComponentTable.{ComponentTable}
-use Rattle.asn1_table_types.specs.declared.nodes.ItemTable.{ItemTable}
-use Rattle.asn1_table_types.specs.declared.nodes.NumberLimits.{NumberLimits}
-use Rattle.asn1_table_types.specs.declared.nodes.Presence.{Presence}
-use Rattle.asn1_table_types.specs.declared.nodes.Presence.TheVariants.{Required, Optional, Default}
-use Rattle.asn1_table_types.specs.declared.nodes.StringTable.{StringTable}
-use Rattle.asn1_table_types.specs.declared.nodes.TypeNode.{TypeNode}
-use Rattle.asn1_table_types.specs.declared.nodes.TypeNode.TheVariants as node
+use Rattle.asn1_table_nodes.specs.Meaning.{alphabet_in, bounds_in, held_in}
+use Rattle.asn1_table_nodes.specs.Values.{value_of}
+use Rattle.asn1_table_nodes.specs.declared.nodes.Alternative.{Alternative}
+use Rattle.asn1_table_nodes.specs.declared.nodes.AlternativeTable.{AlternativeTable}
+use Rattle.asn1_table_nodes.specs.declared.nodes.Component.{Component}
+use Rattle.asn1_table_nodes.specs.declared.nodes.ComponentTable.{ComponentTable}
+use Rattle.asn1_table_nodes.specs.declared.nodes.ItemTable.{ItemTable}
+use Rattle.asn1_table_nodes.specs.declared.nodes.NumberLimits.{NumberLimits}
+use Rattle.asn1_table_nodes.specs.declared.nodes.Presence.{Presence}
+use Rattle.asn1_table_nodes.specs.declared.nodes.Presence.TheVariants.{Required, Optional, Default}
+use Rattle.asn1_table_nodes.specs.declared.nodes.StringTable.{StringTable}
+use Rattle.asn1_table_nodes.specs.declared.nodes.TypeNode.{TypeNode}
+use Rattle.asn1_table_nodes.specs.declared.nodes.TypeNode.TheVariants as node
 use Rattle.asn1_table_extending.specs.declared.pairs.Pair.{Pair}
 
 -- The pair of these places is listed.

@@ -3,7 +3,7 @@ ghost use Rattle.std.specs.Prelude.{◌≡◌, IsTrue, OnOk};
 ghost use Rattle.asn1_model.specs.Versions.{Begins};
 ghost use Rattle.asn1_schema_constraints.specs.Bounds.{range_of};
 ghost use Rattle.asn1_schema_constraints.specs.Terms.{size_of};
-ghost use Rattle.asn1_table_types.specs.Meaning.{alphabet_in};
+ghost use Rattle.asn1_table_nodes.specs.Meaning.{alphabet_in};
 ghost use Rattle.asn1_table_extending.specs.Matching.{ItemsMatch, LimitsMatch, StringsMatch};
 
 use crate::Difference;

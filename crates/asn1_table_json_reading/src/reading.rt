@@ -4,7 +4,7 @@
 ghost use Rattle.std.specs.Prelude.{◌≡◌, ◌≤◌, length, IfOk, IfErr};
 ghost use Rattle.asn1_table_authoring.specs.Steps.{IsSameType};
 ghost use Rattle.asn1_table_building.specs.Built.{IsTapeOf};
-ghost use Rattle.asn1_table_types.specs.Meaning.{type_at};
+ghost use Rattle.asn1_table_nodes.specs.Meaning.{type_at};
 
 use crate::errors::{JsonError, JsonErrorKind};
 use crate::finding::{find_alternative, find_part};

@@ -2,7 +2,7 @@
 ghost use Rattle.std.specs.Prelude.{◌≤◌, length, IfOk};
 ghost use Rattle.asn1_schema_decode.specs.Messages.{NoMessage};
 ghost use Rattle.asn1_table_locating.specs.Answers.{EndsAt, IfRead, IfRefused};
-ghost use Rattle.asn1_table_types.specs.Meaning.{type_at};
+ghost use Rattle.asn1_table_nodes.specs.Meaning.{type_at};
 ghost use Rattle.oer_codec.specs.Messages as octet;
 ghost use Rattle.per_codec.specs.Messages as packed;
 

@@ -8,9 +8,9 @@ use Rattle.asn1_table_names.specs.declared.names.TypeNames.{TypeNames}
 use Rattle.asn1_table_names.specs.declared.parts.Part.{Part}
 use Rattle.asn1_table_names.specs.declared.parts.Part.TheVariants.{Root, Addition, Grouped}
 use Rattle.asn1_table_tape.specs.Terms.{lists_in}
-use Rattle.asn1_table_types.specs.declared.nodes.Component.{Component}
-use Rattle.asn1_table_types.specs.declared.nodes.TypeNode.{TypeNode}
-use Rattle.asn1_table_types.specs.declared.nodes.TypeNode.TheVariants.{Enumerated, Group}
+use Rattle.asn1_table_nodes.specs.declared.nodes.Component.{Component}
+use Rattle.asn1_table_nodes.specs.declared.nodes.TypeNode.{TypeNode}
+use Rattle.asn1_table_nodes.specs.declared.nodes.TypeNode.TheVariants.{Enumerated, Group}
 
 -- The name of the type at an index.
 abbrev pub type_text : List TypeNames → ℕ → Option (List ℕ)

@@ -3,7 +3,7 @@
 
 ghost use Rattle.std.specs.Prelude.{◌≡◌, IfOk, IfErr};
 ghost use Rattle.asn1_schema_decode.specs.Messages.{NeedsMore, NoMessage};
-ghost use Rattle.asn1_table_types.specs.Meaning.{type_at};
+ghost use Rattle.asn1_table_nodes.specs.Meaning.{type_at};
 ghost use Rattle.asn1_table_tape.specs.Records.{records_of};
 ghost use Rattle.asn1_schema_encode.specs.Written.{IsOfValue};
 ghost use Rattle.asn1_table_walker.specs.Fronts.{TellsOnto};

@@ -6,7 +6,7 @@ ghost use Rattle.asn1_model.specs.Rules.{uper, aper, uper_strict, aper_strict, o
 ghost use Rattle.asn1_relay_core.specs.Coding.{rules_of};
 ghost use Rattle.asn1_schema_decode.specs.Messages.{NeedsMore, NoMessage};
 ghost use Rattle.asn1_schema_encode.specs.Written.{IsOfValue};
-ghost use Rattle.asn1_table_types.specs.Meaning.{type_at};
+ghost use Rattle.asn1_table_nodes.specs.Meaning.{type_at};
 ghost use Rattle.asn1_table_tape.specs.Records.{records_of};
 ghost use Rattle.asn1_table_walker.specs.Fronts.{TellsOnto};
 ghost use Rattle.asn1_table_walker.specs.Texts.{EncodedIn, NotEncodedIn};

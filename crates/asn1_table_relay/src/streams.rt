@@ -4,7 +4,7 @@
 ghost use Rattle.std.specs.Prelude.{◌≡◌, ◌<◌, ◌≤◌, IfErr, OnOk};
 ghost use Rattle.asn1_relay_core.specs.Coding.{rules_of};
 ghost use Rattle.asn1_relay_core.specs.Running.{IsDone, RunFaultOf, ends};
-ghost use Rattle.asn1_table_types.specs.Meaning.{type_at};
+ghost use Rattle.asn1_table_nodes.specs.Meaning.{type_at};
 
 use crate::table_type::TableType;
 use asn1_relay_core::{Codec, RunFault, Sink, Source, run_of};

@@ -3,7 +3,7 @@
 
 ghost use Rattle.std.specs.Prelude.{◌≡◌, ◌↔◌, ◌≤◌, IfErr, IsOk, OnOk, [], false, length};
 ghost use Rattle.asn1_relay_core.specs.Relaying.{IsFed, FaultOf, end_fault, starting};
-ghost use Rattle.asn1_table_types.specs.Meaning.{type_at};
+ghost use Rattle.asn1_table_nodes.specs.Meaning.{type_at};
 
 use crate::table_type::TableType;
 use asn1_relay_core::{Codec, RelayFault, RelayOf};
@@ -20,7 +20,7 @@ pub struct TableRelay<'a> {
 impl<'a> Model for TableRelay<'a> {
     ghost use Rattle.std.specs.Coded.{codes};
     ghost use Rattle.asn1_table_relay.specs.Streams.{TableRelaying};
-    ghost use Rattle.asn1_table_types.specs.contracts.events.DefaultValue as default;
+    ghost use Rattle.asn1_table_nodes.specs.contracts.events.DefaultValue as default;
 
     ghost Value = { TableRelaying };
 

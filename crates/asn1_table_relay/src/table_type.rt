@@ -1,7 +1,7 @@
 //! Messages of a type of a table.
 #![tactic(auto, using(std::proofs::lemmas::Grind::common_steps))]
 
-ghost use Rattle.asn1_table_types.specs.Meaning.{type_at};
+ghost use Rattle.asn1_table_nodes.specs.Meaning.{type_at};
 ghost use Rattle.asn1_table_tape.specs.Records.{records_of};
 ghost use Rattle.asn1_table_relay.specs.Tapes.{StandsFor};
 

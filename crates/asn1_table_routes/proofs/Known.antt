@@ -3,7 +3,7 @@ use Rattle.std.proofs.Common.{ℕ}
 use Rattle.asn1_model.specs.Lawful.{IsLawful}
 use Rattle.asn1_model.specs.Tidy.{IsTidy}
 use Rattle.asn1_schema_types.specs.Versions.{ExtendsFrom, Unfolds}
-use Rattle.asn1_table_routes.specs.Schemas.{IsNewer, older_of, newer_of}
+use Rattle.asn1_table_routes.specs.Schemas.{older_of, newer_of}
 use Rattle.asn1_table_routes.specs.declared.versions.Versions.{Versions}
 use Rattle.asn1_table_routes.proofs.Unfolded.{unfolds}
 
@@ -19,8 +19,8 @@ old_tidy v n = v.older.now.tidy n v.old_place
 pub new_tidy : (v : Versions) (n : ℕ) → IsTidy (newer_of v n)
 new_tidy v n = v.newer.now.tidy n v.new_place
 
-pub extends : (v : Versions) → IsNewer v → ExtendsFrom 128 (older_of v) (newer_of v)
-extends v newer = record { unfolded = λ n h. newer n }
+pub extends : (v : Versions) → ExtendsFrom 128 (older_of v) (newer_of v)
+extends v = record { unfolded = λ n h. v.extends n }
 
 pub old_unfolds : (v : Versions) → Unfolds (older_of v)
 old_unfolds v = unfolds v.older.now.nodes.items v.old_place

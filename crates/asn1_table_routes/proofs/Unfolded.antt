@@ -3,11 +3,11 @@ use Rattle.std.proofs.Common.{◌≡◌, ℕ, zero, suc, ◌≤◌, inl, inr, Li
 use Rattle.asn1_model.specs.Schema.{Schema}
 use Rattle.asn1_laws_values.specs.Unfolding.{AgreesTo, AgreesEach, AgreesAlternatives}
 use Rattle.asn1_schema_types.specs.Versions.{Unfolds}
-use Rattle.asn1_table_types.specs.Meaning.{components_of, alternatives_of, type_of, type_at}
-use Rattle.asn1_table_types.specs.declared.nodes.Alternative.{Alternative}
-use Rattle.asn1_table_types.specs.declared.nodes.Component.{Component}
-use Rattle.asn1_table_types.specs.declared.nodes.TypeNode.{TypeNode}
-use Rattle.asn1_table_types.specs.declared.nodes.TypeNode.TheVariants as node
+use Rattle.asn1_table_nodes.specs.Meaning.{components_of, alternatives_of, type_of, type_at}
+use Rattle.asn1_table_nodes.specs.declared.nodes.Alternative.{Alternative}
+use Rattle.asn1_table_nodes.specs.declared.nodes.Component.{Component}
+use Rattle.asn1_table_nodes.specs.declared.nodes.TypeNode.{TypeNode}
+use Rattle.asn1_table_nodes.specs.declared.nodes.TypeNode.TheVariants as node
 
 module _ (f g : ℕ → Schema) (k : ℕ) (h : (p : ℕ) → AgreesTo k (f p) (g p)) where
   components_agree : (cs : List Component) → AgreesEach k (components_of f cs) (components_of g cs)

@@ -1,12 +1,14 @@
 //! Two versions of a type, of a table each.
-ghost use Rattle.std.specs.Prelude.{◌≡◌, IfOk};
-ghost use Rattle.asn1_table_routes.specs.Schemas.{IsNewer};
+ghost use Rattle.std.specs.Prelude.{◌≡◌, ℕ, IfOk};
+ghost use Rattle.asn1_model.specs.Versions.{Extends};
+ghost use Rattle.asn1_table_nodes.specs.Meaning.{type_at};
 
 use asn1_table_extending::{ExtendingError, check_extends};
 use asn1_table_types::Types;
 use std::alloc::Global;
 
-/// A type of a table, and another one of the same or another table.
+/// A type of a table, and a newer version of it, of the same or another table, however deep both are unfolded (X.680
+/// 52).
 #[derive(Drop)]
 pub struct Versions<'a> {
     /// The table of the older version.
@@ -17,6 +19,8 @@ pub struct Versions<'a> {
     pub newer: &'a Types,
     /// The index of the newer version.
     pub new_place: usize,
+    pub ghost extends: { (n : ℕ) → Extends (type_at older.now.nodes.items n old_place)
+        (type_at newer.now.nodes.items n new_place) },
 }
 
 impl<'a> Versions<'a> {
@@ -32,7 +36,6 @@ impl<'a> Versions<'a> {
         newer: &'a Types,
         new_place: usize,
     ) -> Result<Versions<'a>, ExtendingError>
-        ensures is_newer { IfOk result IsNewer }
         ensures older { IfOk result (λ v. v.older.now ≡ older.now) }
         ensures old_place { IfOk result (λ v. v.old_place ≡ old_place) }
         ensures newer { IfOk result (λ v. v.newer.now ≡ newer.now) }

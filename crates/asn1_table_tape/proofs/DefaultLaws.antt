@@ -17,11 +17,11 @@ use Rattle.asn1_laws_values.proofs.Same.{same_turned}
 use Rattle.asn1_schema_laws.specs.Records.{Record, list_begins, bag_begins, choice_begins, further, sequence_begins, set_begins, group_begins, presence_bit, additions_begin, addition, addition_ends, is_default, is_empty, mismatch, ends}
 use Rattle.asn1_schema_laws.specs.Presents.{presents, member_records, chosen_records, root_records, added_records, behind_root as after_root, with_presence_bit, noted, optional_count, component_count, Fits, AllFit, PartsFit, ChosenFits}
 use Rattle.asn1_table_laws.proofs.Normal.{normal_fits}
-use Rattle.asn1_table_types.specs.Sameness.{is_among, are_among}
-use Rattle.asn1_table_types.proofs.EqualBags.{bag_is, counts_agree, matched, no_bag}
-use Rattle.asn1_table_types.specs.Values.{value_of}
-use Rattle.asn1_table_types.specs.declared.events.DefaultValue.{DefaultValue}
-use Rattle.asn1_table_types.specs.declared.nodes.TypeNode.{TypeNode}
+use Rattle.asn1_table_nodes.specs.Sameness.{is_among, are_among}
+use Rattle.asn1_table_nodes.proofs.EqualBags.{bag_is, counts_agree, matched, no_bag}
+use Rattle.asn1_table_nodes.specs.Values.{value_of}
+use Rattle.asn1_table_nodes.specs.declared.events.DefaultValue.{DefaultValue}
+use Rattle.asn1_table_nodes.specs.declared.nodes.TypeNode.{TypeNode}
 use Rattle.asn1_table_tape.specs.declared.defaults.Mark.{Mark}
 use Rattle.asn1_table_tape.specs.declared.defaults.Mark.TheVariants.{Opens, More, Picks, Parts, Present, Additions, Added, AddedEnds, Closes}
 use Rattle.asn1_table_tape.specs.declared.tape.Event.{Event}

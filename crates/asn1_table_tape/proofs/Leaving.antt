@@ -10,11 +10,11 @@ use Rattle.asn1_model.specs.Normal.{normal, normal_parts, is_required, is_group_
 use Rattle.asn1_schema_laws.specs.Records.{Record, group_begins, ends}
 use Rattle.asn1_schema_laws.specs.Presents.{presents, root_records, optional_count, noted, with_presence_bit, Fits, PartsFit}
 use Rattle.asn1_table_laws.proofs.Normal.{normal_fits}
-use Rattle.asn1_table_types.specs.Meaning.{type_of, type_at, components_of}
+use Rattle.asn1_table_nodes.specs.Meaning.{type_of, type_at, components_of}
 use Rattle.asn1_table_types.specs.Tables.{AreLawful}
-use Rattle.asn1_table_types.specs.declared.nodes.Component.{Component}
-use Rattle.asn1_table_types.specs.declared.nodes.TypeNode.{TypeNode}
-use Rattle.asn1_table_types.specs.declared.nodes.TypeNode.TheVariants as node
+use Rattle.asn1_table_nodes.specs.declared.nodes.Component.{Component}
+use Rattle.asn1_table_nodes.specs.declared.nodes.TypeNode.{TypeNode}
+use Rattle.asn1_table_nodes.specs.declared.nodes.TypeNode.TheVariants as node
 use Rattle.asn1_table_tape.specs.declared.tape.Event.{Event}
 use Rattle.asn1_table_tape.specs.Records.{records_of}
 use Rattle.asn1_table_tape.specs.Values.{is_absence}

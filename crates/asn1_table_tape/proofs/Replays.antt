@@ -5,7 +5,7 @@ use Rattle.asn1_schema_errors.specs.declared.EncodeError.{EncodeError}
 use Rattle.asn1_schema_laws.specs.Records.{Record}
 use Rattle.asn1_schema_laws.specs.Chains.{Chain, OneAfter}
 use Rattle.asn1_schema_encode.specs.Writes.{Refused}
-use Rattle.asn1_table_types.specs.declared.nodes.TypeNode.{TypeNode}
+use Rattle.asn1_table_nodes.specs.declared.nodes.TypeNode.{TypeNode}
 use Rattle.asn1_table_tape.specs.declared.tape.Event.{Event}
 use Rattle.asn1_table_tape.specs.Records.{record_of, records_of}
 use Rattle.asn1_table_tape.specs.Replays.{CannotChain}

@@ -16,14 +16,14 @@ use Rattle.asn1_schema_laws.specs.Presents.{presents, Fits}
 use Rattle.asn1_schema_decode.specs.Reads.{NoRecord}
 use Rattle.asn1_schema_decode.proofs.SingleRecords.{unread_boolean, unread_null, unread_integer, unread_bit_string, unread_octet_string, unread_character_string, unread_identifier}
 use Rattle.asn1_table_laws.specs.Walks.{Told, NoValue}
-use Rattle.asn1_table_types.specs.Meaning.{type_of, type_at, bounds_in, held_in, alphabet_in, kind_of}
+use Rattle.asn1_table_nodes.specs.Meaning.{type_of, type_at, bounds_in, held_in, alphabet_in, kind_of}
 use Rattle.asn1_schema_constraints.specs.Terms.{size_of}
 use Rattle.asn1_schema_constraints.specs.declared.sizes.Sizes.{Sizes}
-use Rattle.asn1_table_types.specs.declared.nodes.NumberLimits.{NumberLimits}
-use Rattle.asn1_table_types.specs.declared.nodes.ItemTable.{ItemTable}
-use Rattle.asn1_table_types.specs.declared.nodes.TypeNode.{TypeNode}
-use Rattle.asn1_table_types.specs.declared.nodes.TypeNode.TheVariants.{Integer, Enumerated, BitString, OctetString, CharacterString as Strings}
-use Rattle.asn1_table_types.specs.declared.nodes.StringTable.{StringTable}
+use Rattle.asn1_table_nodes.specs.declared.nodes.NumberLimits.{NumberLimits}
+use Rattle.asn1_table_nodes.specs.declared.nodes.ItemTable.{ItemTable}
+use Rattle.asn1_table_nodes.specs.declared.nodes.TypeNode.{TypeNode}
+use Rattle.asn1_table_nodes.specs.declared.nodes.TypeNode.TheVariants.{Integer, Enumerated, BitString, OctetString, CharacterString as Strings}
+use Rattle.asn1_table_nodes.specs.declared.nodes.StringTable.{StringTable}
 use Rattle.asn1_table_tape.specs.declared.strings.CharacterString.{CharacterString}
 use Rattle.asn1_table_tape.specs.Strings.{kind_in, text_of}
 use Rattle.asn1_table_tape.specs.declared.tape.Event.{Event}

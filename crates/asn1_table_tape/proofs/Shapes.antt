@@ -10,8 +10,8 @@ use Rattle.asn1_schema_laws.specs.Presents.{presents, member_records, root_recor
 use Rattle.asn1_schema_tags.specs.Chosen.{ChoiceTags}
 use Rattle.asn1_schema_tags.specs.declared.chosen.Chosen.{Chosen}
 use Rattle.asn1_table_types.specs.Choices.{tags_at}
-use Rattle.asn1_table_types.specs.declared.nodes.TypeNode.{TypeNode}
-use Rattle.asn1_table_types.specs.declared.nodes.TypeNode.TheVariants as node
+use Rattle.asn1_table_nodes.specs.declared.nodes.TypeNode.{TypeNode}
+use Rattle.asn1_table_nodes.specs.declared.nodes.TypeNode.TheVariants as node
 use Rattle.asn1_table_tape.specs.declared.strings.CharacterString.{CharacterString}
 use Rattle.asn1_table_tape.specs.Strings.{text_of}
 use Rattle.asn1_table_tape.specs.declared.tape.Event.{Event}

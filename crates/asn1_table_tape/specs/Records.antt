@@ -19,11 +19,11 @@ use Rattle.asn1_table_tape.specs.declared.tape.Event.TheVariants.{AdditionEnds, 
 use Rattle.asn1_table_tape.specs.declared.tape.Event.TheVariants.{Ends, SetBegins, Text, Nil, Item, Bits, Octets}
 use Rattle.asn1_table_tape.specs.declared.tape.Event.TheVariants.{Arcs}
 use Rattle.asn1_table_types.specs.Choices.{tags_at}
-use Rattle.asn1_table_types.specs.Meaning.{bounds_in, held_in, alphabet_in}
-use Rattle.asn1_table_types.specs.declared.nodes.TypeNode.{TypeNode}
-use Rattle.asn1_table_types.specs.declared.nodes.TypeNode.TheVariants.{Integer, Enumerated, BitString}
-use Rattle.asn1_table_types.specs.declared.nodes.TypeNode.TheVariants.{OctetString, SequenceOf, SetOf}
-use Rattle.asn1_table_types.specs.declared.nodes.TypeNode.TheVariants as node
+use Rattle.asn1_table_nodes.specs.Meaning.{bounds_in, held_in, alphabet_in}
+use Rattle.asn1_table_nodes.specs.declared.nodes.TypeNode.{TypeNode}
+use Rattle.asn1_table_nodes.specs.declared.nodes.TypeNode.TheVariants.{Integer, Enumerated, BitString}
+use Rattle.asn1_table_nodes.specs.declared.nodes.TypeNode.TheVariants.{OctetString, SequenceOf, SetOf}
+use Rattle.asn1_table_nodes.specs.declared.nodes.TypeNode.TheVariants as node
 
 -- A number, by the type at its index; of any other type there it has no value constraint.
 abbrev pub number_record : Option TypeNode → ℤ → Record

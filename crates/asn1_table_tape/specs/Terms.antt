@@ -1,10 +1,10 @@
 -- The parts of a type of a table: elements, components, and how many of these may be absent.
 use Rattle.std.specs.Prelude.{ℕ, suc, Bool, false, cond, List, [], ◌∷◌, Option, Some, None}
 use Rattle.asn1_model.specs.Normal.{is_required}
-use Rattle.asn1_table_types.specs.Meaning.{presence_of}
-use Rattle.asn1_table_types.specs.declared.nodes.Component.{Component}
-use Rattle.asn1_table_types.specs.declared.nodes.TypeNode.{TypeNode}
-use Rattle.asn1_table_types.specs.declared.nodes.TypeNode.TheVariants.{SequenceOf, SetOf, Sequence, Set, Group}
+use Rattle.asn1_table_nodes.specs.Meaning.{presence_of}
+use Rattle.asn1_table_nodes.specs.declared.nodes.Component.{Component}
+use Rattle.asn1_table_nodes.specs.declared.nodes.TypeNode.{TypeNode}
+use Rattle.asn1_table_nodes.specs.declared.nodes.TypeNode.TheVariants.{SequenceOf, SetOf, Sequence, Set, Group}
 
 -- The components of a SEQUENCE or SET, or of a group of additions, which has no further additions.
 pub record Lists : Type 0 where

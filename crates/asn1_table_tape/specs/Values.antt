@@ -6,8 +6,8 @@ use Rattle.asn1_laws_values.proofs.Counts.{count, one_if}
 use Rattle.asn1_model.specs.Lawful.{member_count}
 use Rattle.asn1_model.specs.Value.{Value, truth, nothing, number, item, bit_list, octet_list, text, arcs, members, bag}
 use Rattle.asn1_model.specs.Value.{fields, chosen, Values, no_more, member, Parts as Fields, end, absent, present, same, same_truth, values_of}
-use Rattle.asn1_table_types.specs.Values.{value_of}
-use Rattle.asn1_table_types.specs.declared.events.DefaultValue.{DefaultValue}
+use Rattle.asn1_table_nodes.specs.Values.{value_of}
+use Rattle.asn1_table_nodes.specs.declared.events.DefaultValue.{DefaultValue}
 use Rattle.asn1_table_tape.specs.Strings.{text_of}
 use Rattle.asn1_table_tape.specs.declared.defaults.Mark.{Mark}
 use Rattle.asn1_table_tape.specs.declared.defaults.Mark.TheVariants.{Opens, More, Picks, Parts, Present}

@@ -10,7 +10,7 @@ ghost use Rattle.asn1_table_tape.specs.Strings.{text_of};
 ghost use Rattle.asn1_table_tape.specs.Values.{behind_added, behind_addition, behind_any, behind_bag, behind_each};
 ghost use Rattle.asn1_table_tape.specs.Values.{behind_event, behind_members, behind_nth, behind_root, behind_value};
 ghost use Rattle.asn1_table_tape.specs.Values.{count_alike, count_on, has_mark, is_scalar, past};
-ghost use Rattle.asn1_table_types.specs.Values.{part_of, parts_of, scalar_of, value_of};
+ghost use Rattle.asn1_table_nodes.specs.Values.{part_of, parts_of, scalar_of, value_of};
 
 use crate::strings::CharacterString;
 use crate::tape::Event;

@@ -12,8 +12,8 @@ ghost use Rattle.asn1_model.specs.Value.{Value};
 ghost use Rattle.asn1_schema_laws.specs.Presents.{presents, Fits};
 ghost use Rattle.asn1_table_tape.specs.Records.{records_of};
 ghost use Rattle.asn1_table_tape.specs.Values.{is_absence};
-ghost use Rattle.asn1_table_types.specs.Meaning.{presence_of, type_at};
-ghost use Rattle.asn1_table_types.specs.declared.nodes.TypeNode.{TypeNode as Node};
+ghost use Rattle.asn1_table_nodes.specs.Meaning.{presence_of, type_at};
+ghost use Rattle.asn1_table_nodes.specs.declared.nodes.TypeNode.{TypeNode as Node};
 
 use crate::defaults::is_value;
 use crate::tape::Event;

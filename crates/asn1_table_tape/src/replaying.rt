@@ -10,7 +10,7 @@ ghost use Rattle.asn1_table_tape.specs.Records.{record_of, records_of, number_re
 ghost use Rattle.asn1_table_tape.specs.Records.{bits_record, octets_record, list_record, choice_record};
 ghost use Rattle.asn1_table_tape.specs.Replays.{CannotChain};
 ghost use Rattle.asn1_table_types.specs.Choices.{tags_at};
-ghost use Rattle.asn1_table_types.specs.Meaning.{bounds_in, held_in};
+ghost use Rattle.asn1_table_nodes.specs.Meaning.{bounds_in, held_in};
 
 use crate::strings::replay_text;
 use crate::tape::Event;

@@ -5,9 +5,9 @@ ghost use Rattle.std.specs.Prelude.{◌≡◌, ◌+◌, ◌≤◌, List, Some, I
 ghost use Rattle.asn1_model.specs.Schema.{boolean, null, object_identifier};
 ghost use Rattle.asn1_schema_errors.specs.Calls.{DecoderCall, SameLevel};
 ghost use Rattle.asn1_table_laws.specs.Walks.{Told, NoValue};
-ghost use Rattle.asn1_table_types.specs.Meaning.{type_of};
-ghost use Rattle.asn1_table_types.specs.declared.nodes.TypeNode.{TypeNode as Node};
-ghost use Rattle.asn1_table_types.specs.declared.nodes.TypeNode.TheVariants as node;
+ghost use Rattle.asn1_table_nodes.specs.Meaning.{type_of};
+ghost use Rattle.asn1_table_nodes.specs.declared.nodes.TypeNode.{TypeNode as Node};
+ghost use Rattle.asn1_table_nodes.specs.declared.nodes.TypeNode.TheVariants as node;
 ghost use Rattle.asn1_table_tape.specs.Records.{records_of};
 
 use crate::tape::{Event, keep};

@@ -7,9 +7,9 @@ ghost use Rattle.asn1_schema_encode.specs.Writes.{Refused};
 ghost use Rattle.asn1_schema_errors.specs.Calls.{DecoderCall, EncoderCall, SameLevel};
 ghost use Rattle.asn1_schema_types.specs.Told.{characters_under, asks_characters_under};
 ghost use Rattle.asn1_table_laws.specs.Walks.{Told, NoValue};
-ghost use Rattle.asn1_table_types.specs.Meaning.{type_of, kind_of};
-ghost use Rattle.asn1_table_types.specs.declared.nodes.TypeNode.{TypeNode as Node};
-ghost use Rattle.asn1_table_types.specs.declared.nodes.TypeNode.TheVariants as node;
+ghost use Rattle.asn1_table_nodes.specs.Meaning.{type_of, kind_of};
+ghost use Rattle.asn1_table_nodes.specs.declared.nodes.TypeNode.{TypeNode as Node};
+ghost use Rattle.asn1_table_nodes.specs.declared.nodes.TypeNode.TheVariants as node;
 ghost use Rattle.asn1_table_tape.specs.Records.{records_of, text_record};
 ghost use Rattle.asn1_table_tape.specs.Strings.{kind_in, text_of};
 

@@ -5,7 +5,7 @@ ghost use Rattle.std.specs.Prelude.{◌≡◌, ℕ, ℤ, Bool, false, [], List, 
 ghost use Rattle.asn1_model.specs.Normal.{is_required};
 ghost use Rattle.asn1_model.specs.Schema.{any_number, any_count, any_size};
 ghost use Rattle.asn1_schema_constraints.specs.Terms.{bounds_of, held_of, sizes_of, size_of, alphabet_of};
-ghost use Rattle.asn1_table_types.specs.Meaning.{bounds_in, held_in, alphabet_in, presence_of};
+ghost use Rattle.asn1_table_nodes.specs.Meaning.{bounds_in, held_in, alphabet_in, presence_of};
 ghost use Rattle.asn1_schema_laws.specs.Records.{one_of, bits, octets};
 ghost use Rattle.asn1_table_tape.specs.Records.{item_record, bits_record};
 ghost use Rattle.asn1_table_tape.specs.Terms.{optional_in};
@@ -101,7 +101,7 @@ pub struct ComponentLists<'a> {
 impl<'a> Model for ComponentLists<'a> {
     ghost use Rattle.std.specs.Coded.{codes};
     ghost use Rattle.asn1_table_tape.specs.Terms.{Lists};
-    ghost use Rattle.asn1_table_types.specs.contracts.events.DefaultValue as default;
+    ghost use Rattle.asn1_table_nodes.specs.contracts.events.DefaultValue as default;
 
     ghost Value = { Lists };
 

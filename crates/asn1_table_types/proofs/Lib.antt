@@ -4,11 +4,6 @@ pub mod Refused
 pub mod TagLaws
 pub mod Unlawful
 pub mod Sound
-pub mod Deciding
-pub mod Scalars
 pub mod Inserting
 pub mod Tagged
-pub mod Composed
-pub mod Values
-pub mod EqualBags
 pub mod NormalDefaults

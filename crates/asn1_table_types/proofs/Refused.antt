@@ -4,7 +4,7 @@ use Rattle.std.specs.Result.{IsErrAnd}
 use Rattle.asn1_table_types.specs.declared.faults.Flaw.{Flaw}
 use Rattle.asn1_table_types.specs.declared.faults.Refusal.{Refusal}
 use Rattle.asn1_table_types.specs.declared.faults.Refusal.TheVariants.{Flawed, NoMemory}
-use Rattle.asn1_table_types.specs.Defaults.{AtSome}
+use Rattle.asn1_table_nodes.specs.Defaults.{AtSome}
 use Rattle.asn1_table_types.specs.Tables.{IsDue, IsDueAt}
 
 pub due_more : (P Q : Flaw → Bool) (r : Refusal) → ((f : Flaw) → P f ≡ true → Q f ≡ true) → IsDue P r → IsDue Q r

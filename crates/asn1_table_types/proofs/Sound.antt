@@ -12,14 +12,15 @@ use Rattle.asn1_model.specs.Lawful.{are_distinct, are_ascending, tag_same, tag_l
 use Rattle.asn1_model.specs.Lawful.{alternative_tags, are_lawful_alternatives}
 use Rattle.asn1_schema_constraints.specs.Terms.{size_of}
 use Rattle.asn1_schema_tags.specs.Tags.{tag_of}
-use Rattle.asn1_table_types.specs.declared.nodes.TypeNode.{TypeNode}
-use Rattle.asn1_table_types.specs.declared.nodes.TypeNode.TheVariants as node
-use Rattle.asn1_table_types.specs.declared.nodes.Component.{Component}
-use Rattle.asn1_table_types.specs.declared.nodes.Alternative.{Alternative}
-use Rattle.asn1_table_types.specs.Meaning.{type_of, type_at, components_of, alternatives_of, presence_of}
+use Rattle.asn1_table_nodes.specs.declared.nodes.TypeNode.{TypeNode}
+use Rattle.asn1_table_nodes.specs.declared.nodes.TypeNode.TheVariants as node
+use Rattle.asn1_table_nodes.specs.declared.nodes.Component.{Component}
+use Rattle.asn1_table_nodes.specs.declared.nodes.Alternative.{Alternative}
+use Rattle.asn1_table_nodes.specs.Meaning.{type_of, type_at, components_of, alternatives_of, presence_of}
 use Rattle.asn1_table_types.specs.Flaws.{is_in_place, is_component, are_components, are_together, is_table}
 use Rattle.asn1_table_types.specs.Flaws.{is_set_table, is_group_table, are_alternatives, are_choice_tags}
-use Rattle.asn1_table_types.specs.Flaws.{is_choice_table, is_sound, have_defaults, has_defaults}
+use Rattle.asn1_table_types.specs.Flaws.{is_choice_table, is_sound}
+use Rattle.asn1_table_nodes.specs.Defaults.{have_defaults, has_defaults}
 use Rattle.asn1_table_types.specs.Tables.{AreLawful}
 use Rattle.asn1_table_types.proofs.TagLaws.{tags_are, none_are, places_are, among_are, class_is_one}
 

@@ -13,16 +13,16 @@ use Rattle.asn1_schema_tags.specs.declared.tags.Class.{Class}
 use Rattle.asn1_schema_tags.specs.declared.tags.Class.TheVariants.{Universal, Application, Context, Private}
 use Rattle.asn1_schema_tags.specs.declared.tags.Tag.{Tag}
 use Rattle.asn1_table_types.specs.declared.faults.Flaw.TheVariants.{MarkerMissing, TagTwice, TagsOutOfOrder, ComponentMissing, AlternativeMissing}
-use Rattle.asn1_table_types.specs.declared.nodes.Alternative.{Alternative}
-use Rattle.asn1_table_types.specs.declared.nodes.Component.{Component}
-use Rattle.asn1_table_types.specs.declared.nodes.Presence.{Presence}
-use Rattle.asn1_table_types.specs.declared.nodes.TypeNode.{TypeNode}
-use Rattle.asn1_table_types.specs.declared.nodes.TypeNode.TheVariants as node
+use Rattle.asn1_table_nodes.specs.declared.nodes.Alternative.{Alternative}
+use Rattle.asn1_table_nodes.specs.declared.nodes.Component.{Component}
+use Rattle.asn1_table_nodes.specs.declared.nodes.Presence.{Presence}
+use Rattle.asn1_table_nodes.specs.declared.nodes.TypeNode.{TypeNode}
+use Rattle.asn1_table_nodes.specs.declared.nodes.TypeNode.TheVariants as node
 use Rattle.asn1_table_types.proofs.Lists.{empty_length}
 use Rattle.asn1_table_types.specs.Flaws.{is_in_place, is_component, are_components, is_table, table_lacks, order_lacks}
 use Rattle.asn1_table_types.specs.Flaws.{is_set_table, group_lacks, is_group_table, choice_lacks, is_choice_table}
 use Rattle.asn1_table_types.specs.Flaws.{are_alternatives}
-use Rattle.asn1_table_types.specs.Meaning.{components_of, tags_in, places_in, least_of, presence_of, alternatives_of, tags_among, is_plain, type_of}
+use Rattle.asn1_table_nodes.specs.Meaning.{components_of, tags_in, places_in, least_of, presence_of, alternatives_of, tags_among, is_plain, type_of}
 
 -- the tags of components are those that they are given
 pub tags_are : (f : ℕ → Schema) (cs : List Component) → component_tags (components_of f cs) ≡ tags_in cs

@@ -8,10 +8,10 @@ use Rattle.asn1_schema_tags.proofs.Halves.{left, right}
 use Rattle.asn1_table_types.proofs.TagLaws.{among_are}
 use Rattle.asn1_table_types.specs.Choices.{has_own_tags}
 use Rattle.asn1_table_types.specs.Flaws.{is_sound, are_alternatives, are_choice_tags, is_choice_table}
-use Rattle.asn1_table_types.specs.Meaning.{alternatives_of, tags_among, type_of, type_at}
-use Rattle.asn1_table_types.specs.declared.nodes.Alternative.{Alternative}
-use Rattle.asn1_table_types.specs.declared.nodes.TypeNode.{TypeNode}
-use Rattle.asn1_table_types.specs.declared.nodes.TypeNode.TheVariants as node
+use Rattle.asn1_table_nodes.specs.Meaning.{alternatives_of, tags_among, type_of, type_at}
+use Rattle.asn1_table_nodes.specs.declared.nodes.Alternative.{Alternative}
+use Rattle.asn1_table_nodes.specs.declared.nodes.TypeNode.{TypeNode}
+use Rattle.asn1_table_nodes.specs.declared.nodes.TypeNode.TheVariants as node
 
 -- no tag of alternatives of a lawful CHOICE occurs twice
 distinct_among : (f : ℕ → Schema) (xs : List Alternative) (e : Bool) (ys : List Alternative) → is_choice_table (alternatives_of f xs) e (alternatives_of f ys) ≡ true

@@ -13,8 +13,8 @@ use Rattle.asn1_model.specs.Lawful.{are_no_components, are_distinct, tag_same, c
 use Rattle.asn1_model.specs.Lawful.{component_places, alternative_tags, are_lawful_alternatives}
 use Rattle.std.specs.List.{list_all}
 use Rattle.std.proofs.lemmas.Option.{slice_get_within, slice_get_read}
-use Rattle.asn1_table_types.specs.declared.nodes.TypeNode.{TypeNode}
-use Rattle.asn1_table_types.specs.Meaning.{type_of, type_at}
+use Rattle.asn1_table_nodes.specs.declared.nodes.TypeNode.{TypeNode}
+use Rattle.asn1_table_nodes.specs.Meaning.{type_of, type_at}
 use Rattle.asn1_table_types.specs.declared.faults.Refusal.{Refusal}
 use Rattle.asn1_table_types.specs.declared.faults.Refusal.TheVariants.{Flawed, NoMemory}
 use Rattle.asn1_table_types.specs.Tables.{IsUnlawful, IsRefused, IsDueAt, error_of}
@@ -27,7 +27,8 @@ use Rattle.asn1_table_types.specs.declared.faults.Flaw.TheVariants.{TagsOutOfOrd
 use Rattle.asn1_table_types.specs.Flaws.{is_in_place, component_lacks, some_lacks, together_lack, table_lacks}
 use Rattle.asn1_table_types.specs.Flaws.{bounds_lack, sizes_lack, members_lack, items_lack, order_lacks}
 use Rattle.asn1_table_types.specs.Flaws.{group_itself_lacks, choice_tags_lack, alternatives_lack, are_items}
-use Rattle.asn1_table_types.specs.Flaws.{are_alternatives, lacks, have_defaults, has_defaults}
+use Rattle.asn1_table_types.specs.Flaws.{are_alternatives, lacks}
+use Rattle.asn1_table_nodes.specs.Defaults.{have_defaults, has_defaults}
 
 not_false : (b : Bool) → b ≡ true → not b ≡ false
 not_false b e = ap not e

@@ -5,10 +5,10 @@ use Rattle.asn1_model.specs.Lawful.{are_distinct, tag_same}
 use Rattle.asn1_schema_tags.specs.Chosen.{ChoiceTags}
 use Rattle.asn1_schema_tags.specs.Places.{is_table_of}
 use Rattle.asn1_schema_tags.specs.declared.probes.TagPlace.{TagPlace}
-use Rattle.asn1_table_types.specs.declared.nodes.AlternativeTable.{AlternativeTable}
-use Rattle.asn1_table_types.specs.declared.nodes.TypeNode.{TypeNode}
-use Rattle.asn1_table_types.specs.declared.nodes.TypeNode.TheVariants as node
-use Rattle.asn1_table_types.specs.Meaning.{tags_among}
+use Rattle.asn1_table_nodes.specs.declared.nodes.AlternativeTable.{AlternativeTable}
+use Rattle.asn1_table_nodes.specs.declared.nodes.TypeNode.{TypeNode}
+use Rattle.asn1_table_nodes.specs.declared.nodes.TypeNode.TheVariants as node
+use Rattle.asn1_table_nodes.specs.Meaning.{tags_among}
 
 -- The tags of a CHOICE (X.680 29).
 abbrev pub tags_of : AlternativeTable → ChoiceTags

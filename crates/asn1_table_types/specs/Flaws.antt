@@ -90,18 +90,6 @@ component_lacks GroupOutOfPlace added ts o s = not (is_in_place added o s)
 component_lacks DefaultOfOtherType added ts o s = not (has_typed_default s o)
 component_lacks f added ts o s = false
 
--- Each default of components is a value of its component's type (X.680 25).
-abbrev pub have_defaults : Components → Bool
-have_defaults no_component = true
-have_defaults (component ts o s cs) = has_typed_default s o && have_defaults cs
-
--- Each default of a SEQUENCE, SET or group does.
-abbrev pub has_defaults : Schema → Bool
-has_defaults (sequence cs e adds) = have_defaults cs && have_defaults adds
-has_defaults (set cs e adds) = have_defaults cs && have_defaults adds
-has_defaults (group cs) = have_defaults cs
-has_defaults s = true
-
 -- It is wrong with one of some components.
 abbrev pub some_lacks : Flaw → Bool → Components → Bool
 some_lacks f added no_component = false

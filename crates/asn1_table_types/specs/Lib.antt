@@ -1,10 +1,4 @@
-pub mod Values
-pub mod Meaning
-pub mod Defaults
 pub mod Orders
 pub mod Flaws
 pub mod Tables
 pub mod Choices
-pub mod Listed
-pub mod Reduced
-pub mod Sameness

@@ -3,7 +3,7 @@ use Rattle.std.specs.Prelude.{Bool, true, cond, List, [], ◌∷◌, Option, Som
 use Rattle.asn1_model.specs.Schema.{Tag}
 use lib.Pointwise.{pointwise}
 use Rattle.asn1_model.specs.Lawful.{are_ascending, smallest, tag_less, tag_same}
-use Rattle.asn1_table_types.specs.Meaning.{least_of}
+use Rattle.asn1_table_nodes.specs.Meaning.{least_of}
 
 -- An element comes after another, if there is one.
 abbrev pub is_above : {X : Type 0} → (X → X → Bool) → Option X → X → Bool

@@ -2,16 +2,16 @@
 use Rattle.std.specs.Prelude.{◌≡◌, ◌<◌, ℕ, Bool, true, false, List, length}
 use Rattle.asn1_model.specs.Lawful.{is_lawful}
 use Rattle.asn1_model.specs.Tidy.{is_tidy}
-use Rattle.asn1_table_types.specs.Meaning.{type_at}
+use Rattle.asn1_table_nodes.specs.Meaning.{type_at}
 use Rattle.asn1_table_types.specs.Flaws.{lacks}
-use Rattle.asn1_table_types.specs.Defaults.{AtSome}
+use Rattle.asn1_table_nodes.specs.Defaults.{AtSome}
 use Rattle.asn1_table_types.specs.declared.faults.Flaw.{Flaw}
 use Rattle.asn1_table_types.specs.declared.faults.Refusal.{Refusal}
 use Rattle.asn1_table_types.specs.declared.faults.Refusal.TheVariants.{Flawed, NoMemory}
 use Rattle.asn1_table_types.specs.declared.faults.TableError.{TableError}
 use Rattle.asn1_table_types.specs.declared.faults.TableError.TheVariants.{Unlawful, DefaultNotNormal}
 use Rattle.asn1_table_types.specs.declared.faults.TableError.TheVariants.{OutOfMemory}
-use Rattle.asn1_table_types.specs.declared.nodes.TypeNode.{TypeNode}
+use Rattle.asn1_table_nodes.specs.declared.nodes.TypeNode.{TypeNode}
 
 -- Each type of the table is lawful, in whatever depth it is unfolded.
 abbrev pub AreLawful : List TypeNode → Type 0

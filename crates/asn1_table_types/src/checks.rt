@@ -1,11 +1,13 @@
-//! Whether a type of a table meets the conditions of a lawful type, apart from the types that it leads to.
+//! Whether a type of a table meets the conditions of a lawful type, apart from the types that it leads to,
+//! and whether the defaults of its components are values of their types.
 #![tactic(auto, using(std::proofs::lemmas::Grind::common_steps))]
 
-ghost use Rattle.std.specs.Prelude.{◌≡◌, true, IfErr, OnOk, Some};
+ghost use Rattle.std.specs.Prelude.{◌≡◌, ℕ, true, IfErr, OnOk, Some};
 ghost use Rattle.asn1_model.specs.Lawful.{is_range, are_counts};
 ghost use Rattle.asn1_schema_constraints.specs.Bounds.{range_of, counts_of};
+ghost use Rattle.asn1_table_nodes.specs.Defaults.{AtSome, has_defaults};
+ghost use Rattle.asn1_table_nodes.specs.Meaning.{type_of};
 ghost use Rattle.asn1_table_types.specs.Flaws.{is_sound, lacks, bounds_lack, sizes_lack};
-ghost use Rattle.asn1_table_types.specs.Meaning.{type_of};
 ghost use Rattle.asn1_table_types.specs.Tables.{IsDue};
 
 use crate::choices::check_choice;
@@ -15,6 +17,7 @@ use crate::groups::check_members;
 use crate::items::check_items;
 use crate::{Flaw, TypeNode};
 use asn1_schema_constraints::{Bounded, Sizes};
+use asn1_table_nodes::has_right_defaults;
 use std::alloc::Global;
 
 /// Checks the conditions of a lawful type for a node of a table.
@@ -102,4 +105,15 @@ fn check_sizes(sizes: Sizes) -> Result<(), Flaw>
         } if low > high => Err(Flaw::SizesOutOfOrder),
         _ => Ok(()),
     }
+}
+
+/// The defaults of a node's components are values of the components' types.
+pub fn check_defaults(nodes: &[TypeNode], node: &TypeNode) -> Result<(), Flaw>
+    ensures typed { OnOk result ((n : ℕ) → has_defaults (type_of nodes.now n (Some node.now)) ≡ true) }
+    ensures lacking { IfErr result (λ f. AtSome (λ n. lacks (type_of nodes.now n (Some node.now)) f) true) }
+{
+    if !has_right_defaults(nodes, node) {
+        return Err(Flaw::DefaultOfOtherType);
+    }
+    Ok(())
 }

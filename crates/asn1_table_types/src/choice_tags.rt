@@ -1,7 +1,7 @@
 //! The tags of each CHOICE of a table, with the table that finds the alternative of a tag (X.680 29).
 #![tactic(auto, using(std::proofs::lemmas::Grind::common_steps))]
 
-ghost use Rattle.std.specs.Prelude.{◌≡◌, ◌++◌, ◌∷◌, [], true, None, List, length, map, IfOk, OnOk};
+ghost use Rattle.std.specs.Prelude.{◌≡◌, ◌++◌, ◌∷◌, [], true, None, List, map, IfOk, OnOk};
 ghost use Rattle.std.specs.List.{list_all};
 ghost use Rattle.asn1_model.specs.Lawful.{are_distinct, tag_same, tag_less};
 ghost use Rattle.asn1_model.specs.Schema.{Tag as ModelTag};

@@ -7,7 +7,7 @@ ghost use Rattle.asn1_model.specs.Lawful.{begins_with};
 ghost use Rattle.asn1_model.specs.Schema.{Schema, choice};
 ghost use Rattle.asn1_schema_tags.specs.Tags.{tag_of};
 ghost use Rattle.asn1_table_types.specs.Flaws.{are_alternatives, is_choice_table, alternatives_lack, choice_lacks};
-ghost use Rattle.asn1_table_types.specs.Meaning.{alternatives_of, tags_among, type_at};
+ghost use Rattle.asn1_table_nodes.specs.Meaning.{alternatives_of, tags_among, type_at};
 ghost use Rattle.asn1_table_types.specs.Orders.{same_row};
 ghost use Rattle.asn1_table_types.specs.Tables.{IsDue};
 

@@ -3,13 +3,12 @@
 
 ghost use Rattle.std.specs.Prelude.{◌≡◌, ℕ, true, false, ◌++◌, ◌||◌, ◌&&◌, IfOk, IfErr, OnOk, map};
 ghost use Rattle.asn1_model.specs.Lawful.{are_distinct, are_ascending, tag_same, tag_less, begins_with, is_empty};
-ghost use Rattle.asn1_model.specs.Lawful.{is_group};
 ghost use Rattle.asn1_model.specs.Schema.{Schema, group};
 ghost use Rattle.asn1_schema_tags.specs.Tags.{tag_of};
 ghost use Rattle.asn1_table_types.specs.Flaws.{is_in_place, is_component, are_components, is_table, is_set_table};
 ghost use Rattle.asn1_table_types.specs.Flaws.{is_group_table, component_lacks, some_lacks, table_lacks, set_lacks};
 ghost use Rattle.asn1_table_types.specs.Flaws.{group_lacks};
-ghost use Rattle.asn1_table_types.specs.Meaning.{presence_of, components_of, tags_in, places_in, type_at};
+ghost use Rattle.asn1_table_nodes.specs.Meaning.{presence_of, components_of, tags_in, places_in, type_at};
 ghost use Rattle.asn1_table_types.specs.Tables.{IsDue};
 
 use crate::choices::choice_begins;

@@ -2,7 +2,7 @@
 ghost use Rattle.std.specs.Prelude.{◌≡◌, false, true, IfErr, OnOk};
 ghost use Rattle.asn1_model.specs.Lawful.{is_group};
 ghost use Rattle.asn1_table_types.specs.Flaws.{members_lack};
-ghost use Rattle.asn1_table_types.specs.Meaning.{type_at};
+ghost use Rattle.asn1_table_nodes.specs.Meaning.{type_at};
 
 use crate::{Flaw, TypeNode};
 

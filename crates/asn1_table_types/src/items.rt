@@ -1,8 +1,7 @@
 //! The items of an ENUMERATED (X.680 20).
 #![tactic(auto, using(crate::proofs::Orders::walks, std::proofs::lemmas::Grind::common_steps))]
 
-ghost use Rattle.std.specs.Prelude.{◌≡◌, ◌++◌, ◌||◌, not, true, int_lt, IfOk, IfErr, OnOk};
-ghost use Rattle.std.specs.List.{list_all};
+ghost use Rattle.std.specs.Prelude.{◌≡◌, ◌++◌, ◌||◌, true, int_lt, IfOk, IfErr, OnOk};
 ghost use Rattle.asn1_model.specs.Lawful.{are_ascending, are_distinct, is_empty};
 ghost use Rattle.asn1_model.specs.Value.{same_number};
 ghost use Rattle.asn1_table_types.specs.Flaws.{are_items, items_lack};
@@ -11,6 +10,7 @@ ghost use Rattle.asn1_table_types.specs.Tables.{IsDue};
 
 use crate::faults::Refusal;
 use crate::{Flaw, ItemTable};
+use asn1_table_nodes::item_differs;
 use std::alloc::{AllocError, Global};
 
 /// The items are those of a lawful ENUMERATED (X.680 20).
@@ -123,18 +123,6 @@ fn are_distinct_items(items: &[isize]) -> bool
 {
     for (index, item) in items.iter().enumerate() {
         if !item_differs(*item, &items[index + 1..]) {
-            return false;
-        }
-    }
-    true
-}
-
-/// Whether a number is none of some others.
-pub fn item_differs(item: isize, others: &[isize]) -> bool
-    ensures { result ≡ list_all (λ y. not (same_number item y)) others.now }
-{
-    for other in others {
-        if item == *other {
             return false;
         }
     }

@@ -2,18 +2,18 @@
 ghost use Rattle.std.specs.Prelude.{◌≡◌, ℕ, true, IfOk, IfErr, OnOk, Some, map, slice_get};
 ghost use Rattle.std.specs.Option.{option_copied};
 ghost use Rattle.asn1_table_types.specs.Choices.{tags_at, tags_in};
-ghost use Rattle.asn1_table_types.specs.Flaws.{is_sound, has_defaults, lacks};
-ghost use Rattle.asn1_table_types.specs.Meaning.{type_of, type_at};
-ghost use Rattle.asn1_table_types.specs.Reduced.{has_reduced_defaults};
+ghost use Rattle.asn1_table_types.specs.Flaws.{is_sound, lacks};
+ghost use Rattle.asn1_table_nodes.specs.Defaults.{has_defaults};
+ghost use Rattle.asn1_table_nodes.specs.Meaning.{type_of, type_at};
+ghost use Rattle.asn1_table_nodes.specs.Reduced.{has_reduced_defaults};
 ghost use Rattle.asn1_table_types.specs.Tables.{AreLawful, AreTidy, IsRefused, IsDueAt, error_of};
 
-use crate::checks::check_node;
+use crate::checks::{check_defaults, check_node};
 use crate::choice_tags::{AlternativeTags, choices_of};
-use crate::defaults::check_defaults;
 use crate::faults::Refusal;
-use crate::reduced::has_reduced_defaults;
 use crate::{TableError, TypeNode};
 use asn1_schema_tags::TagTables;
+use asn1_table_nodes::has_reduced_defaults;
 use std::alloc::Global;
 
 /// Types, each of them lawful and with defaults in normal form, however deep it is unfolded.

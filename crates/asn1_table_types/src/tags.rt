@@ -6,7 +6,7 @@ ghost use Rattle.std.specs.List.{list_all};
 ghost use Rattle.asn1_model.specs.Lawful.{are_distinct, tag_same};
 ghost use Rattle.asn1_schema_tags.specs.Tags.{tag_of};
 ghost use Rattle.asn1_table_types.specs.Orders.{is_behind, follows, least_with, same_row, smaller_of};
-ghost use Rattle.asn1_table_types.specs.Meaning.{least_of};
+ghost use Rattle.asn1_table_nodes.specs.Meaning.{least_of};
 
 use asn1_schema_tags::Tag;
 

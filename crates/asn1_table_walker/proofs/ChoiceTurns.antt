@@ -13,12 +13,12 @@ use Rattle.asn1_schema_tags.specs.declared.chosen.Chosen.{Chosen}
 use Rattle.asn1_table_laws.specs.Walks.{NoValue, Begun, EndsClosing, chosen}
 use Rattle.asn1_table_laws.proofs.Choices.{type_in, no_choice, choice_begun, choice_ends}
 use Rattle.asn1_table_types.specs.Choices.{tags_of, tags_there}
-use Rattle.asn1_table_types.specs.Meaning.{type_of, type_at, alternatives_of, tags_among}
+use Rattle.asn1_table_nodes.specs.Meaning.{type_of, type_at, alternatives_of, tags_among}
 use Rattle.asn1_table_types.proofs.TagLaws.{among_are}
-use Rattle.asn1_table_types.specs.declared.nodes.Alternative.{Alternative}
-use Rattle.asn1_table_types.specs.declared.nodes.AlternativeTable.{AlternativeTable}
-use Rattle.asn1_table_types.specs.declared.nodes.TypeNode.{TypeNode}
-use Rattle.asn1_table_types.specs.declared.nodes.TypeNode.TheVariants.{Choice}
+use Rattle.asn1_table_nodes.specs.declared.nodes.Alternative.{Alternative}
+use Rattle.asn1_table_nodes.specs.declared.nodes.AlternativeTable.{AlternativeTable}
+use Rattle.asn1_table_nodes.specs.declared.nodes.TypeNode.{TypeNode}
+use Rattle.asn1_table_nodes.specs.declared.nodes.TypeNode.TheVariants.{Choice}
 use Rattle.asn1_table_tape.specs.declared.tape.Event.{Event}
 use Rattle.asn1_table_tape.specs.declared.tape.Event.TheVariants.{ChoiceBegins, Ends as Ended}
 use Rattle.asn1_table_tape.specs.Records.{records_of, choice_record}

@@ -16,10 +16,10 @@ use Rattle.asn1_schema_lacking_laws.specs.Carried.{CarriesMembers}
 use Rattle.asn1_schema_decode.specs.Reads.{NoRecord, NoLevel}
 use Rattle.asn1_table_laws.specs.Walks.{NoValue, Ends, Stuck, Begun, Awaits}
 use Rattle.asn1_table_laws.proofs.Members.{last_told, further_stuck, full_stuck, close_stuck, member_awaited, list_begun, no_list, bag_begun, no_bag}
-use Rattle.asn1_table_types.specs.Meaning.{type_of, type_at}
+use Rattle.asn1_table_nodes.specs.Meaning.{type_of, type_at}
 use Rattle.asn1_table_types.specs.Tables.{AreLawful}
-use Rattle.asn1_table_types.specs.declared.nodes.TypeNode.{TypeNode}
-use Rattle.asn1_table_types.specs.declared.nodes.TypeNode.TheVariants.{SequenceOf, SetOf}
+use Rattle.asn1_table_nodes.specs.declared.nodes.TypeNode.{TypeNode}
+use Rattle.asn1_table_nodes.specs.declared.nodes.TypeNode.TheVariants.{SequenceOf, SetOf}
 use Rattle.asn1_table_tape.specs.declared.tape.Event.{Event}
 use Rattle.asn1_table_tape.specs.declared.tape.Event.TheVariants.{ListBegins, Further, Ends as Ended}
 use Rattle.asn1_table_tape.specs.Records.{record_of, records_of, list_record}

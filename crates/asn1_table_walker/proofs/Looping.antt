@@ -8,8 +8,8 @@ use Rattle.asn1_schema_laws.specs.Records.{Record}
 use Rattle.asn1_schema_decode.specs.Reads.{Unread}
 use Rattle.asn1_table_laws.specs.Walks.{ReadsOnto, Told, NoValue, Pending, Ends, Stuck, Opens, Passes, Awaits, Goes, GoesOn, StuckFrom}
 use Rattle.asn1_table_laws.proofs.Turning.{with_rest, begins, finished, goes_left, goes_again, goes_value, stuck_turn, stuck_value}
-use Rattle.asn1_table_types.specs.Meaning.{type_at}
-use Rattle.asn1_table_types.specs.declared.nodes.TypeNode.{TypeNode}
+use Rattle.asn1_table_nodes.specs.Meaning.{type_at}
+use Rattle.asn1_table_nodes.specs.declared.nodes.TypeNode.{TypeNode}
 use Rattle.asn1_table_walker.specs.declared.frames.Frame.{Frame}
 use Rattle.asn1_table_walker.specs.Frames.{pending_of, pending_in, pendings, levels_in, with_frame}
 

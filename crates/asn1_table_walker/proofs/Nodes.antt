@@ -11,11 +11,11 @@ use Rattle.asn1_model.specs.Normal.{is_required}
 use Rattle.asn1_model.specs.Tidy.{is_tidy, are_tidy, has_normal_default}
 use Rattle.asn1_schema_laws.specs.Presents.{optional_count, component_count}
 use Rattle.asn1_schema_tags.specs.Tags.{tag_of}
-use Rattle.asn1_table_types.specs.Meaning.{type_of, type_at, components_of, presence_of}
+use Rattle.asn1_table_nodes.specs.Meaning.{type_of, type_at, components_of, presence_of}
 use Rattle.asn1_table_types.specs.Tables.{AreLawful, AreTidy}
-use Rattle.asn1_table_types.specs.declared.nodes.Component.{Component}
-use Rattle.asn1_table_types.specs.declared.nodes.TypeNode.{TypeNode}
-use Rattle.asn1_table_types.specs.declared.nodes.TypeNode.TheVariants as node
+use Rattle.asn1_table_nodes.specs.declared.nodes.Component.{Component}
+use Rattle.asn1_table_nodes.specs.declared.nodes.TypeNode.{TypeNode}
+use Rattle.asn1_table_nodes.specs.declared.nodes.TypeNode.TheVariants as node
 use Rattle.asn1_table_tape.specs.Terms.{Lists, optional_in, lists_in}
 
 pub optional_counted : (f : ℕ → Schema) (cs : List Component) → optional_count (components_of f cs) ≡ optional_in cs

@@ -14,10 +14,10 @@ use Rattle.asn1_table_laws.specs.Walks.{Stuck, Passes, Notes, NotNoted, Pending}
 use Rattle.asn1_table_laws.specs.Walks as walk
 use Rattle.asn1_table_laws.proofs.Noting.{noting_passes, noting_stuck, inside_passes, inside_stuck, inside_end_stuck}
 use Rattle.asn1_table_laws.proofs.Normal.{not_required_there}
-use Rattle.asn1_table_types.specs.Meaning.{type_at, components_of, presence_of}
+use Rattle.asn1_table_nodes.specs.Meaning.{type_at, components_of, presence_of}
 use Rattle.asn1_table_types.specs.Tables.{AreLawful}
-use Rattle.asn1_table_types.specs.declared.nodes.Component.{Component}
-use Rattle.asn1_table_types.specs.declared.nodes.TypeNode.{TypeNode}
+use Rattle.asn1_table_nodes.specs.declared.nodes.Component.{Component}
+use Rattle.asn1_table_nodes.specs.declared.nodes.TypeNode.{TypeNode}
 use Rattle.asn1_table_tape.specs.declared.tape.Event.{Event}
 use Rattle.asn1_table_tape.specs.declared.tape.Event.TheVariants.{PresenceBit, Addition, AdditionEnds}
 use Rattle.asn1_table_tape.specs.Records.{record_of, records_of}

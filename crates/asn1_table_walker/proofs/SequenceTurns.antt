@@ -23,12 +23,12 @@ use Rattle.asn1_table_laws.proofs.Roots.{Composed, composed_sequence, composed_s
 use Rattle.asn1_table_laws.proofs.Roots.{has_default, required_awaited, present_awaited, noting_awaited}
 use Rattle.asn1_table_laws.proofs.Roots.{absent_passes as left_out_passes, bit_stuck, rest_passes, rest_stuck, end_passes}
 use Rattle.asn1_table_laws.proofs.Additions.{added_ends, addition_stuck, required_refused, absent_passes, value_awaited}
-use Rattle.asn1_table_types.specs.Meaning.{type_of, type_at, components_of, presence_of}
+use Rattle.asn1_table_nodes.specs.Meaning.{type_of, type_at, components_of, presence_of}
 use Rattle.asn1_table_types.proofs.TagLaws.{none_are}
-use Rattle.asn1_table_types.specs.declared.nodes.Component.{Component}
-use Rattle.asn1_table_types.specs.declared.nodes.ComponentTable.{ComponentTable}
-use Rattle.asn1_table_types.specs.declared.nodes.TypeNode.{TypeNode}
-use Rattle.asn1_table_types.specs.declared.nodes.TypeNode.TheVariants.{Sequence, Set, Group}
+use Rattle.asn1_table_nodes.specs.declared.nodes.Component.{Component}
+use Rattle.asn1_table_nodes.specs.declared.nodes.ComponentTable.{ComponentTable}
+use Rattle.asn1_table_nodes.specs.declared.nodes.TypeNode.{TypeNode}
+use Rattle.asn1_table_nodes.specs.declared.nodes.TypeNode.TheVariants.{Sequence, Set, Group}
 use Rattle.asn1_table_tape.specs.declared.tape.Event.{Event}
 use Rattle.asn1_table_tape.specs.declared.tape.Event.TheVariants.{SequenceBegins, SetBegins, GroupBegins, PresenceBit, AdditionsBegin, Addition, Ends as Ended}
 use Rattle.asn1_table_tape.specs.Records.{record_of, records_of}

@@ -7,11 +7,11 @@ use Rattle.asn1_schema_laws.specs.Records.{Record}
 use Rattle.asn1_table_laws.specs.Walks as walk
 use Rattle.asn1_table_tape.specs.Records.{list_record}
 use Rattle.asn1_table_tape.specs.Terms.{Lists, members_in, lists_in}
-use Rattle.asn1_table_types.specs.Meaning.{components_of, presence_of, type_at}
-use Rattle.asn1_table_types.specs.declared.nodes.Component.{Component}
-use Rattle.asn1_table_types.specs.declared.nodes.TypeNode.{TypeNode}
-use Rattle.asn1_table_types.specs.declared.nodes.TypeNode.TheVariants.{Boolean, Null, Integer, Enumerated, BitString}
-use Rattle.asn1_table_types.specs.declared.nodes.TypeNode.TheVariants.{OctetString, CharacterString, ObjectIdentifier}
+use Rattle.asn1_table_nodes.specs.Meaning.{components_of, presence_of, type_at}
+use Rattle.asn1_table_nodes.specs.declared.nodes.Component.{Component}
+use Rattle.asn1_table_nodes.specs.declared.nodes.TypeNode.{TypeNode}
+use Rattle.asn1_table_nodes.specs.declared.nodes.TypeNode.TheVariants.{Boolean, Null, Integer, Enumerated, BitString}
+use Rattle.asn1_table_nodes.specs.declared.nodes.TypeNode.TheVariants.{OctetString, CharacterString, ObjectIdentifier}
 use Rattle.asn1_table_walker.specs.declared.frames.Frame.{Frame}
 use Rattle.asn1_table_walker.specs.declared.frames.Frame.TheVariants.{Members, Root, Noting, Added, Inside}
 use Rattle.asn1_table_walker.specs.declared.frames.Frame.TheVariants.{Alternative, Closing}

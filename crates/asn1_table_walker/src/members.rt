@@ -4,9 +4,9 @@
 ghost use Rattle.std.specs.Prelude.{◌≡◌, ◌+◌, ◌≤◌, ℕ, List, Some, Err, IfOk, IfErr, OnOk, OnErr, vec_len, slice_get};
 ghost use Rattle.asn1_schema_errors.specs.Calls.{DecoderCall, OneLevelLess};
 ghost use Rattle.asn1_table_laws.specs.Walks.{NoValue, Begun, Stuck, Turns};
-ghost use Rattle.asn1_table_types.specs.Meaning.{type_at};
-ghost use Rattle.asn1_table_types.specs.declared.nodes.TypeNode.{TypeNode as Node};
-ghost use Rattle.asn1_table_types.specs.declared.nodes.TypeNode.TheVariants.{SequenceOf as ListOf, SetOf as BagOf};
+ghost use Rattle.asn1_table_nodes.specs.Meaning.{type_at};
+ghost use Rattle.asn1_table_nodes.specs.declared.nodes.TypeNode.{TypeNode as Node};
+ghost use Rattle.asn1_table_nodes.specs.declared.nodes.TypeNode.TheVariants.{SequenceOf as ListOf, SetOf as BagOf};
 ghost use Rattle.asn1_table_tape.specs.Records.{records_of};
 ghost use Rattle.asn1_table_walker.specs.Frames.{pending_of, turn_of, levels_closed};
 

@@ -8,7 +8,7 @@ ghost use Rattle.asn1_model.specs.Lawful.{has_typed_default};
 ghost use Rattle.asn1_model.specs.Tidy.{has_normal_default};
 ghost use Rattle.asn1_table_laws.specs.Walks.{Notes, NotNoted, Stuck, Turns};
 ghost use Rattle.asn1_table_tape.specs.Records.{records_of};
-ghost use Rattle.asn1_table_types.specs.Meaning.{presence_of, type_at};
+ghost use Rattle.asn1_table_nodes.specs.Meaning.{presence_of, type_at};
 ghost use Rattle.asn1_table_walker.specs.Frames.{pending_of, turn_of, levels_closed};
 
 use crate::frames::{Frame, Turn};

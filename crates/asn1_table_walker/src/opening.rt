@@ -4,7 +4,7 @@
 ghost use Rattle.std.specs.Prelude.{◌≡◌, ◌+◌, ◌≤◌, IfOk, IfErr, OnOk, Some, true, slice_get, vec_len, ⊤};
 ghost use Rattle.asn1_schema_errors.specs.Calls.{DecoderCall, SameLevel};
 ghost use Rattle.asn1_table_laws.specs.Walks.{NoValue, Opens, Told};
-ghost use Rattle.asn1_table_types.specs.Meaning.{type_at, type_of};
+ghost use Rattle.asn1_table_nodes.specs.Meaning.{type_at, type_of};
 ghost use Rattle.asn1_table_tape.specs.Records.{records_of};
 ghost use Rattle.asn1_table_walker.specs.Frames.{pending_in, levels_in, is_single};
 

@@ -6,7 +6,7 @@ ghost use Rattle.std.specs.Prelude.{IfOk, IfErr, IfNone, IfSome, OnOk, OnErr};
 ghost use Rattle.asn1_schema_decode.specs.Reads.{Unread};
 ghost use Rattle.asn1_schema_errors.specs.Calls.{DecoderCall, SameLevel};
 ghost use Rattle.asn1_table_laws.specs.Walks.{ReadsOnto, Stuck, Turns, GoesOn, StuckFrom};
-ghost use Rattle.asn1_table_types.specs.Meaning.{type_at};
+ghost use Rattle.asn1_table_nodes.specs.Meaning.{type_at};
 ghost use Rattle.asn1_table_tape.specs.Records.{records_of};
 ghost use Rattle.asn1_table_walker.specs.Frames.{pending_of, pendings, turn_of, levels_closed};
 ghost use Rattle.asn1_table_walker.specs.Frames.{with_frame, levels_in};

@@ -12,11 +12,11 @@ ghost use Rattle.asn1_table_laws.specs.Walks.{NoValue, Begun, Stuck, Turns, Ends
 ghost use Rattle.asn1_table_tape.specs.Records.{records_of};
 ghost use Rattle.asn1_table_tape.specs.Terms.{lists_in};
 ghost use Rattle.asn1_table_laws.proofs.Roots.{has_default as is_by_default};
-ghost use Rattle.asn1_table_types.specs.Meaning.{type_at, components_of, presence_of};
-ghost use Rattle.asn1_table_types.specs.declared.nodes.Component.{Component as Part};
-ghost use Rattle.asn1_table_types.specs.declared.nodes.TypeNode.{TypeNode as Node};
-ghost use Rattle.asn1_table_types.specs.declared.nodes.TypeNode.TheVariants.{Sequence as SequenceWith, Set as SetWith};
-ghost use Rattle.asn1_table_types.specs.declared.nodes.TypeNode.TheVariants.{Group as GroupWith};
+ghost use Rattle.asn1_table_nodes.specs.Meaning.{type_at, components_of, presence_of};
+ghost use Rattle.asn1_table_nodes.specs.declared.nodes.Component.{Component as Part};
+ghost use Rattle.asn1_table_nodes.specs.declared.nodes.TypeNode.{TypeNode as Node};
+ghost use Rattle.asn1_table_nodes.specs.declared.nodes.TypeNode.TheVariants.{Sequence as SequenceWith, Set as SetWith};
+ghost use Rattle.asn1_table_nodes.specs.declared.nodes.TypeNode.TheVariants.{Group as GroupWith};
 ghost use Rattle.asn1_table_walker.specs.Frames.{pending_of, turn_of, levels_closed};
 
 use crate::frames::{Frame, Turn};

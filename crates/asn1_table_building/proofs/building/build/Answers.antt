@@ -2,7 +2,7 @@ use Rattle.std.proofs.Common.{◌≡◌, ◌∙◌, refl, sym, ap, ℕ, map, len
 use Rattle.std.specs.Prelude.{position}
 use Rattle.asn1_model.specs.Schema.{Schema}
 use Rattle.asn1_schema_records.specs.Kept.{record_of as item_record_of}
-use Rattle.asn1_table_types.specs.Meaning.{type_at}
+use Rattle.asn1_table_nodes.specs.Meaning.{type_at}
 use Rattle.asn1_table_tape.specs.Records.{record_of, records_of}
 use Rattle.asn1_table_building.specs.Admitted.{is_admitted}
 use Rattle.asn1_table_building.proofs.ReadAgain.{begun_by, unread, surplus, outside, built, none_outside, some_outside}

@@ -1,7 +1,7 @@
 use Rattle.std.proofs.Common.{Err, ℕ, ◌^◌, ◌-◌, [], length, ap, ◌∙◌, arith}
 use Rattle.std.proofs.lemmas.List.{length-take}
 use Rattle.asn1_model.specs.Schema.{Schema}
-use Rattle.asn1_table_types.specs.Meaning.{type_at}
+use Rattle.asn1_table_nodes.specs.Meaning.{type_at}
 use Rattle.asn1_table_tape.specs.Records.{records_of}
 use Rattle.oer_codec.proofs.Messages.{left_within, none_told_from, more_needed_from, not_failed}
 use Rattle.asn1_table_walker.proofs.Told.{none_at}

@@ -1,6 +1,6 @@
 use Rattle.std.proofs.Common.{Err, ℕ, ◌≤◌, ◌/◌, length, drop, ap, sym, subst}
 use Rattle.asn1_model.specs.Schema.{Schema}
-use Rattle.asn1_table_types.specs.Meaning.{type_at}
+use Rattle.asn1_table_nodes.specs.Meaning.{type_at}
 use Rattle.asn1_table_tape.specs.Records.{records_of}
 use Rattle.asn1_table_walker.specs.Fronts.{TellsOnto}
 use Rattle.asn1_table_walker.proofs.Told.{none_at}

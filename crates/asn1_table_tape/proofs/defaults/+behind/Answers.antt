@@ -5,11 +5,11 @@ use Rattle.std.proofs.lemmas.Bool.{eq-eqb}
 use Rattle.asn1_laws_values.proofs.Counts.{one_if}
 use Rattle.asn1_model.specs.Lawful.{member_count}
 use Rattle.asn1_model.specs.Value.{Value, values_of}
-use Rattle.asn1_table_types.specs.Values.{value_of, part_of, parts_of}
-use Rattle.asn1_table_types.proofs.EqualBags.{unequal_eqb}
-use Rattle.asn1_table_types.proofs.Values.{simple_value, sequence_value, bag_value, choice_value, parts_value}
-use Rattle.asn1_table_types.specs.declared.events.DefaultValue.{DefaultValue}
-use Rattle.asn1_table_types.specs.declared.events.DefaultValue.TheVariants.{Components}
+use Rattle.asn1_table_nodes.specs.Values.{value_of, part_of, parts_of}
+use Rattle.asn1_table_nodes.proofs.EqualBags.{unequal_eqb}
+use Rattle.asn1_table_nodes.proofs.Values.{simple_value, sequence_value, bag_value, choice_value, parts_value}
+use Rattle.asn1_table_nodes.specs.declared.events.DefaultValue.{DefaultValue}
+use Rattle.asn1_table_nodes.specs.declared.events.DefaultValue.TheVariants.{Components}
 use Rattle.asn1_table_tape.specs.declared.tape.Event.{Event}
 use Rattle.asn1_table_tape.specs.declared.defaults.Mark.TheVariants.{Opens, More, Picks, Parts, Additions, Closes}
 use Rattle.asn1_table_tape.specs.Values.{has_mark, behind_added, behind_any, behind_bag, behind_each, behind_event, behind_members, behind_nth, behind_root, behind_value, count_on, counts_on, past}

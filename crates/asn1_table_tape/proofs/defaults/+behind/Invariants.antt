@@ -1,7 +1,7 @@
 use Rattle.std.proofs.Common.{◌≡◌, ◌+◌, ◌-◌, ◌≤◌, drop, length, map, is_some}
 use Rattle.asn1_model.specs.Lawful.{member_count}
 use Rattle.asn1_model.specs.Value.{values_of}
-use Rattle.asn1_table_types.specs.Values.{part_of, parts_of, value_of}
+use Rattle.asn1_table_nodes.specs.Values.{part_of, parts_of, value_of}
 use Rattle.asn1_table_tape.specs.Values.{behind_added, behind_any, behind_each, behind_members, behind_nth, behind_root, count_on, counts_on}
 use Rattle.asn1_table_tape.proofs.defaults.+behind.Given as goal
 

@@ -1,5 +1,5 @@
 use Rattle.std.proofs.Common.{◌∙◌, sym}
-use Rattle.asn1_table_types.specs.Values.{scalar_of}
+use Rattle.asn1_table_nodes.specs.Values.{scalar_of}
 use Rattle.asn1_table_tape.specs.Values.{is_scalar}
 use Rattle.asn1_table_tape.proofs.Behind.{event_behind, event_missed, no_event}
 use Rattle.asn1_table_tape.proofs.defaults.behind_scalar.Goals as goal

@@ -4,8 +4,8 @@ use Rattle.std.proofs.lemmas.Bool.{ltb-false}
 use Rattle.std.proofs.lemmas.Option.{slice_get_past, slice_get_read}
 use Rattle.asn1_laws_values.proofs.Counts.{count, one_if}
 use Rattle.asn1_model.specs.Value.{same, values_of}
-use Rattle.asn1_table_types.specs.Values.{value_of}
-use Rattle.asn1_table_types.proofs.Values.{values_end}
+use Rattle.asn1_table_nodes.specs.Values.{value_of}
+use Rattle.asn1_table_nodes.proofs.Values.{values_end}
 use Rattle.asn1_table_tape.proofs.Behind.{at_most_one, counted_step}
 use Rattle.asn1_table_tape.proofs.defaults.count_alike.Goals as goal
 use Rattle.asn1_table_tape.proofs.defaults.count_alike.Goals.{then-is_same_value, else-is_same_value}

@@ -1,7 +1,7 @@
 use Rattle.std.proofs.Common.{◌≡◌, ◌+◌, ◌≤◌, drop, map}
 use Rattle.asn1_laws_values.proofs.Counts.{count}
 use Rattle.asn1_model.specs.Value.{same, values_of}
-use Rattle.asn1_table_types.specs.Values.{value_of}
+use Rattle.asn1_table_nodes.specs.Values.{value_of}
 use Rattle.asn1_table_tape.proofs.defaults.count_alike.Given as goal
 
 -- The count so far, with that of the rest, is that of all.

@@ -1,5 +1,5 @@
 use Rattle.std.proofs.Common.{◌∙◌}
-use Rattle.asn1_table_types.specs.Values.{value_of}
+use Rattle.asn1_table_nodes.specs.Values.{value_of}
 use Rattle.asn1_table_tape.proofs.DefaultLaws.{default_found}
 use Rattle.asn1_table_tape.proofs.noted.is_default.Goals as goal
 

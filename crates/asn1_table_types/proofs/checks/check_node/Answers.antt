@@ -1,6 +1,6 @@
 use Rattle.std.proofs.Common.{◌∙◌, refl, sym, ap, subst, Some, IfErr}
 use Rattle.asn1_table_types.specs.Flaws.{is_sound, lacks, group_lacks, is_group_table}
-use Rattle.asn1_table_types.specs.Meaning.{components_of, type_of, type_at}
+use Rattle.asn1_table_nodes.specs.Meaning.{components_of, type_of, type_at}
 use Rattle.asn1_table_types.specs.Tables.{IsDue}
 use Rattle.asn1_table_types.proofs.Refused.{raised_of, holds_of}
 use Rattle.asn1_table_types.proofs.checks.check_node.Goals as goal

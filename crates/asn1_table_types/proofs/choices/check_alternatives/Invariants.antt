@@ -1,6 +1,6 @@
 use Rattle.std.proofs.Common.{◌≡◌, drop}
 use Rattle.asn1_table_types.specs.Flaws.{are_alternatives}
-use Rattle.asn1_table_types.specs.Meaning.{alternatives_of, type_at}
+use Rattle.asn1_table_nodes.specs.Meaning.{alternatives_of, type_at}
 use Rattle.asn1_table_types.proofs.choices.check_alternatives.Given as goal
 
 abbrev pub invariant-loop-alternative : goal.invariant-loop-alternative

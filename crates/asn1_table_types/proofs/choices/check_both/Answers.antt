@@ -1,4 +1,4 @@
-use Rattle.asn1_table_types.specs.Meaning.{type_at}
+use Rattle.asn1_table_nodes.specs.Meaning.{type_at}
 use Rattle.asn1_table_types.proofs.TagLaws.{choice_bare_lacks, choice_unmarked_lacks, choice_order_lacks, choice_twice_lacks, choice_is, told, told_false}
 use Rattle.asn1_table_types.proofs.choices.check_both.Goals as goal
 

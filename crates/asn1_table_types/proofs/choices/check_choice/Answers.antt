@@ -1,5 +1,5 @@
 use Rattle.asn1_table_types.specs.Flaws.{choice_lacks, is_choice_table}
-use Rattle.asn1_table_types.specs.Meaning.{alternatives_of, type_at}
+use Rattle.asn1_table_nodes.specs.Meaning.{alternatives_of, type_at}
 use Rattle.asn1_table_types.proofs.Refused.{raised_of, holds_of}
 use Rattle.asn1_table_types.proofs.choices.check_choice.Goals as goal
 

@@ -1,7 +1,7 @@
 use Rattle.std.proofs.Common.{◌∙◌, ap, ◌==◌, true, cond, length, map, ◌++◌}
 use Rattle.asn1_schema_tags.specs.Tags.{tag_of}
 use Rattle.asn1_table_types.specs.Orders.{same_row}
-use Rattle.asn1_table_types.specs.Meaning.{tags_among}
+use Rattle.asn1_table_nodes.specs.Meaning.{tags_among}
 use Rattle.asn1_table_types.proofs.TagLaws as laws
 use Rattle.asn1_table_types.proofs.choices.choice_begins.Goals as goal
 

@@ -2,7 +2,7 @@ use Rattle.std.proofs.Common.{◌≡◌, ◌∙◌, sym, ap, ◌+◌, ◌&&◌, 
 use Rattle.std.proofs.lemmas.Bool.{or_right}
 use Rattle.std.proofs.lemmas.List.{drop_more}
 use Rattle.asn1_table_types.specs.Flaws.{are_components, some_lacks}
-use Rattle.asn1_table_types.specs.Meaning.{components_of, type_at}
+use Rattle.asn1_table_nodes.specs.Meaning.{components_of, type_at}
 use Rattle.asn1_table_types.proofs.components.check_components.Goals as goal
 
 pub loop-component-preserved : goal.loop-component-preserved

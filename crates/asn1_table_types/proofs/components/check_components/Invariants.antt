@@ -1,7 +1,7 @@
 use Rattle.std.proofs.Common.{◌≡◌, true, drop}
 use Rattle.asn1_table_types.specs.declared.faults.Flaw.{Flaw}
 use Rattle.asn1_table_types.specs.Flaws.{are_components, some_lacks}
-use Rattle.asn1_table_types.specs.Meaning.{components_of, type_at}
+use Rattle.asn1_table_nodes.specs.Meaning.{components_of, type_at}
 use Rattle.asn1_table_types.proofs.components.check_components.Given as goal
 
 abbrev pub invariant-loop-component : goal.invariant-loop-component

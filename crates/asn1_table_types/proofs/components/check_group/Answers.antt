@@ -1,5 +1,5 @@
 use Rattle.std.proofs.lemmas.Bool.{or_right}
-use Rattle.asn1_table_types.specs.Meaning.{type_at}
+use Rattle.asn1_table_nodes.specs.Meaning.{type_at}
 use Rattle.asn1_table_types.proofs.Refused.{raised}
 use Rattle.asn1_table_types.proofs.TagLaws.{bare_lacks, group_twice_lacks, group_is, told, told_false}
 use Rattle.asn1_table_types.proofs.components.check_group.Goals as goal

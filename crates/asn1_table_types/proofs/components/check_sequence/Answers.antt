@@ -1,5 +1,5 @@
 use Rattle.asn1_table_types.specs.Flaws.{table_lacks, is_table}
-use Rattle.asn1_table_types.specs.Meaning.{components_of, type_at}
+use Rattle.asn1_table_nodes.specs.Meaning.{components_of, type_at}
 use Rattle.asn1_table_types.proofs.Refused.{raised_of, holds_of}
 use Rattle.asn1_table_types.proofs.components.check_sequence.Goals as goal
 

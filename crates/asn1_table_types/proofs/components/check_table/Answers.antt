@@ -1,5 +1,5 @@
 use Rattle.std.proofs.lemmas.Bool.{or_right}
-use Rattle.asn1_table_types.specs.Meaning.{type_at}
+use Rattle.asn1_table_nodes.specs.Meaning.{type_at}
 use Rattle.asn1_table_types.proofs.Refused.{raised}
 use Rattle.asn1_table_types.proofs.TagLaws.{unmarked_lacks, twice_lacks, table_is}
 use Rattle.asn1_table_types.proofs.components.check_table.Goals as goal

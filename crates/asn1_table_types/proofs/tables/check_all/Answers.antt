@@ -1,7 +1,8 @@
 use Rattle.std.proofs.Common.{◌≡◌, ℕ, true, below_more, slice_get, arith}
-use Rattle.asn1_table_types.specs.Flaws.{is_sound, has_defaults}
-use Rattle.asn1_table_types.specs.Meaning.{type_at}
-use Rattle.asn1_table_types.specs.Reduced.{has_reduced_defaults}
+use Rattle.asn1_table_types.specs.Flaws.{is_sound}
+use Rattle.asn1_table_nodes.specs.Defaults.{has_defaults}
+use Rattle.asn1_table_nodes.specs.Meaning.{type_at}
+use Rattle.asn1_table_nodes.specs.Reduced.{has_reduced_defaults}
 use Rattle.asn1_table_types.proofs.NormalDefaults.{reduced_everywhere}
 use Rattle.asn1_table_types.proofs.Sound.{everywhere, typed_everywhere}
 use Rattle.asn1_table_types.proofs.tables.check_all.Goals as goal

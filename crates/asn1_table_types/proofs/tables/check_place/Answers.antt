@@ -1,6 +1,6 @@
 use Rattle.std.proofs.Common.{◌∙◌, ap, length, refl, sym, subst}
 use Rattle.std.proofs.lemmas.Option.{slice_get_read}
-use Rattle.asn1_table_types.specs.Reduced.{has_reduced_defaults}
+use Rattle.asn1_table_nodes.specs.Reduced.{has_reduced_defaults}
 use Rattle.asn1_table_types.proofs.NormalDefaults.{refused_untidy}
 use Rattle.asn1_table_types.specs.declared.faults.TableError.{TableError}
 use Rattle.asn1_table_types.specs.Tables.{IsRefused}

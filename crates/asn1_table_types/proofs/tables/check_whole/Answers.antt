@@ -1,6 +1,6 @@
 use Rattle.std.proofs.Common.{Some}
 use Rattle.asn1_table_types.specs.Flaws.{lacks}
-use Rattle.asn1_table_types.specs.Meaning.{type_of}
+use Rattle.asn1_table_nodes.specs.Meaning.{type_of}
 use Rattle.asn1_table_types.proofs.Refused.{raised_at, raised_flaw}
 use Rattle.asn1_table_types.proofs.tables.check_whole.Goals as goal
 

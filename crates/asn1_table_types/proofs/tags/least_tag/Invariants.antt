@@ -1,6 +1,6 @@
 use Rattle.std.proofs.Common.{◌≡◌, drop, map, option_map}
 use Rattle.asn1_schema_tags.specs.Tags.{tag_of}
-use Rattle.asn1_table_types.specs.Meaning.{least_of}
+use Rattle.asn1_table_nodes.specs.Meaning.{least_of}
 use Rattle.asn1_table_types.specs.Orders.{least_with}
 use Rattle.asn1_table_types.proofs.tags.least_tag.Given as goal
 

@@ -1,7 +1,7 @@
 use Rattle.std.proofs.Common.{Some}
 use Rattle.asn1_table_laws.specs.Walks.{NoValue}
-use Rattle.asn1_table_types.specs.Meaning.{type_of}
-use Rattle.asn1_table_types.specs.declared.nodes.TypeNode.TheVariants.{Integer, BitString, OctetString, CharacterString}
+use Rattle.asn1_table_nodes.specs.Meaning.{type_of}
+use Rattle.asn1_table_nodes.specs.declared.nodes.TypeNode.TheVariants.{Integer, BitString, OctetString, CharacterString}
 use Rattle.asn1_table_walker.proofs.Looping.{refused_there}
 use Rattle.asn1_table_walker.proofs.opening.read_single.Goals as goal
 

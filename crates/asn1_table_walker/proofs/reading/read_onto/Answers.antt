@@ -1,6 +1,6 @@
 use Rattle.std.proofs.Common.{sym, reverse, arith}
 use Rattle.asn1_schema_laws.proofs.Joined.{raised}
-use Rattle.asn1_table_types.specs.Meaning.{type_at}
+use Rattle.asn1_table_nodes.specs.Meaning.{type_at}
 use Rattle.asn1_table_tape.specs.Records.{records_of}
 use Rattle.asn1_table_walker.specs.Frames.{with_frame}
 use Rattle.asn1_table_walker.proofs.Looping.{walk_begins, walk_ends, walk_refused, onto_of, unread_of}

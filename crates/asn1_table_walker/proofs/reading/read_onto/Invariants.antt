@@ -1,6 +1,6 @@
 use Rattle.std.proofs.Common.{◌≡◌, ◌+◌, length, reverse}
 use Rattle.asn1_table_laws.specs.Walks.{Goes}
-use Rattle.asn1_table_types.specs.Meaning.{type_at}
+use Rattle.asn1_table_nodes.specs.Meaning.{type_at}
 use Rattle.asn1_table_tape.specs.Records.{records_of}
 use Rattle.asn1_table_walker.specs.Frames.{pendings, with_frame, levels_in}
 use Rattle.asn1_table_walker.proofs.reading.read_onto.Given as goal

@@ -1,6 +1,6 @@
 use Rattle.std.proofs.Common.{IfErr, OnOk, subst}
 use Rattle.asn1_relay_core.specs.Relaying.{IsFed, FaultOf}
-use Rattle.asn1_table_types.specs.Meaning.{type_at}
+use Rattle.asn1_table_nodes.specs.Meaning.{type_at}
 use Rattle.asn1_table_relay.specs.Streams.{TableRelaying}
 use Rattle.asn1_table_relay.proofs.table_relay.TableRelay.feed.Goals as goal
 

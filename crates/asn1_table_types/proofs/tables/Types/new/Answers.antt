@@ -1,10 +1,10 @@
 use Rattle.std.proofs.Common.{◌≡◌, ◌∙◌, List, ap, map, subst, sym, true}
 use Rattle.asn1_table_types.specs.Choices.{tags_in}
 use Rattle.asn1_table_types.specs.Flaws.{is_sound}
-use Rattle.asn1_table_types.specs.Meaning.{type_at}
+use Rattle.asn1_table_nodes.specs.Meaning.{type_at}
 use Rattle.asn1_table_types.specs.Tables.{AreLawful, AreTidy}
 use Rattle.asn1_table_types.proofs.NormalDefaults.{all_tidy}
-use Rattle.asn1_table_types.specs.declared.nodes.TypeNode.{TypeNode}
+use Rattle.asn1_table_nodes.specs.declared.nodes.TypeNode.{TypeNode}
 use Rattle.asn1_table_types.proofs.Sound.{all_lawful}
 use Rattle.asn1_table_types.proofs.Tagged.{tags_differ}
 use Rattle.asn1_table_types.proofs.tables.Types.new.Goals as goal
