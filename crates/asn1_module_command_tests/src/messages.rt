@@ -59,6 +59,41 @@ const SMALLS: [Row; 6] = [
     (small!("json", "uper", "--hex"), SMALL, b"-4", b"10\n"),
 ];
 
+/// An extensible SEQUENCE with a group of additions.
+const ADDED: &str = "M DEFINITIONS AUTOMATIC TAGS ::= BEGIN Small ::= SEQUENCE {a INTEGER (0..7), \
+    b BOOLEAN DEFAULT TRUE, ..., [[c OCTET STRING OPTIONAL]]} END";
+
+/// A SET, whose components are in the order of their tags.
+const ORDERED: &str = "M DEFINITIONS ::= BEGIN Small ::= SET {b [1] BOOLEAN, a INTEGER (-5..5), \
+    c [APPLICATION 0] NULL} END";
+
+/// A CHOICE that contains itself.
+const NESTED: &str = "M DEFINITIONS ::= BEGIN Small ::= CHOICE {b [1] Small, \
+    a [0] IA5String (FROM (\"a\"..\"d\")) (SIZE (1..4))} END";
+
+/// A SEQUENCE whose first component has a default with components.
+const DEFAULTED: &str =
+    "M DEFINITIONS AUTOMATIC TAGS ::= BEGIN Small ::= SEQUENCE {a SET {n INTEGER (0..3), \
+    f BOOLEAN DEFAULT TRUE} DEFAULT {f TRUE, n 2}, b BOOLEAN} END";
+
+/// Messages of these, all by hand.
+const CONSTRUCTED: [Row; 4] = [
+    (
+        small!("coer", "uper"),
+        ADDED,
+        b"\xC0\x05\x00\x02\x07\x80\x03\x80\x01\xAA",
+        b"\xE8\x04\x0E\x03\x54\x00",
+    ),
+    (small!("coer", "uper"), ORDERED, b"\xFC\xFF", b"\x18"),
+    (
+        small!("coer", "uper"),
+        NESTED,
+        b"\x81\x80\x02\x61\x64",
+        b"\x93",
+    ),
+    (small!("coer", "uper"), DEFAULTED, b"\x00\xFF", b"\x40"),
+];
+
 /// Two characters that take four octets: their number has no effect on the encoding (X.696 27).
 const TEXT: &str = "M DEFINITIONS ::= BEGIN Small ::= UTF8String (SIZE (2)) END";
 
@@ -83,8 +118,9 @@ fn texts(rt: HostRuntime) {
 }
 
 #[test]
-fn small_numbers(rt: HostRuntime) {
+fn small_messages(rt: HostRuntime) {
     assert!(rt; first_wrong(rt.alloc(), &SMALLS).is_none());
+    assert!(rt; first_wrong(rt.alloc(), &CONSTRUCTED).is_none());
 }
 
 /// A list of fields, each of which holds a value of the type that its number stands for (X.681, X.683).

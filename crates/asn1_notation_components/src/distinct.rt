@@ -34,6 +34,19 @@ impl TagSet {
         Ok(())
     }
 
+    /// Adds the tags with which a part may begin, which are given back.
+    fn add_possible(
+        &mut self,
+        alloc: Global,
+        files: &mut Files<'_, '_>,
+        scope: Scope,
+        part: Part<'_>,
+    ) -> Result<Vec<Tag>, NotationError> {
+        let tags = possible_tags(alloc, files, part)?;
+        self.add(scope, part, tags.as_slice())?;
+        Ok(tags)
+    }
+
     /// Adds tags that may be there already.
     fn note(&mut self, tags: &[Tag]) -> Result<(), NotationError> {
         for tag in tags {
@@ -58,8 +71,7 @@ pub fn check_set(
     }
     let mut taken = TagSet::new(alloc);
     for part in parts.root.iter().chain(&parts.additions) {
-        let tags = possible_tags(alloc, files, *part)?;
-        taken.add(parts.scope, *part, tags.as_slice())?;
+        taken.add_possible(alloc, files, parts.scope, *part)?;
     }
     Ok(())
 }
@@ -125,8 +137,9 @@ impl Run {
         if is_required && self.tags.is_empty() {
             return Ok(());
         }
-        let tags = possible_tags(self.alloc, files, part)?;
-        self.taken.add(self.scope, part, tags.as_slice())?;
+        let tags = self
+            .taken
+            .add_possible(self.alloc, files, self.scope, part)?;
         self.tags.extend_from_slice(tags.as_slice())?;
         if is_required {
             self.taken = TagSet::new(self.alloc);

@@ -195,15 +195,11 @@ impl<'a> Gathering<'a> {
         additions: &'a [Addition],
     ) -> Result<(), NotationError> {
         for index in 0..additions.len() {
-            match &additions[index] {
-                Addition::Single(component) => {
-                    self.add(files, scope, slice::from_ref(component), None, MOST_LEVELS)?;
-                }
-                Addition::Group(group) => {
-                    let components = group.components.as_slice();
-                    self.add(files, scope, components, Some(index), MOST_LEVELS)?;
-                }
-            }
+            let (components, group) = match &additions[index] {
+                Addition::Single(component) => (slice::from_ref(component), None),
+                Addition::Group(group) => (group.components.as_slice(), Some(index)),
+            };
+            self.add(files, scope, components, group, MOST_LEVELS)?;
         }
         Ok(())
     }

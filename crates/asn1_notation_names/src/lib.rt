@@ -4,7 +4,6 @@
 mod classes;
 mod distinct;
 mod errors;
-mod identifiers;
 mod instances;
 mod items;
 mod numbers;
@@ -15,8 +14,7 @@ mod suggestions;
 pub use classes::type_of_field;
 pub use distinct::NameSet;
 pub use errors::{Explained, Near, NotationError, Problem};
-pub use identifiers::arcs_of;
 pub use items::{Numbered, Numbers, numbers_of};
-pub use numbers::{ValueUse, integer_of, item_of, may_be, number_of, settled};
+pub use numbers::{ValueUse, integer_of, item_of, may_be, number_of, settled, value_named};
 pub use references::{referenced, type_of_symbol};
 pub use scopes::{Files, Index, Scope, Symbol, TypeUse};

@@ -51,7 +51,7 @@ pub fn named<'a>(numbers: &'a [NamedNumber], name: &str) -> Option<&'a NamedNumb
 ///
 /// Those of `Files::find`. At the name, `UnknownValue` where it is no value's, and `Parameterised` where the value has
 /// parameters. Those of `check_governor`.
-pub fn referenced(
+pub fn value_named(
     files: &Files<'_, '_>,
     scope: Scope,
     module: Option<&Name>,
@@ -130,7 +130,7 @@ fn next_of(
     if !reference.parameters.is_empty() {
         return Err(scope.error(reference.name.place, Problem::Parameterised));
     }
-    referenced(files, scope, reference.module.as_ref(), &reference.name)
+    value_named(files, scope, reference.module.as_ref(), &reference.name)
 }
 
 /// The value that an assignment defines, after its type.

@@ -253,6 +253,19 @@ fn entry_in<'a>(entries: &[Entry<'a>], name: &str, scope: Scope) -> Option<Entry
     }
 }
 
+/// Why a name stands for nothing, after the module and the lexical item at which that is said.
+#[derive(Clone, Copy)]
+enum Lost<'a> {
+    /// Another module, the last one that was searched, neither defines nor imports it.
+    Missing(Scope, usize, Scope),
+    /// A module from which it is imported is not among the files.
+    NoModule(Scope, &'a Name),
+    /// A module from which it is imported does not export it.
+    NotExported(Scope, usize),
+    /// It is imported through more than 64 modules.
+    Circular(Scope, usize),
+}
+
 /// The files of a table, their names, and the parameterised assignments that are used.
 #[derive(Drop)]
 pub struct Files<'a, 'i> {
@@ -384,21 +397,37 @@ impl<'a, 'i> Files<'a, 'i> {
         has && !self.exports(scope, name)
     }
 
-    /// What a name in a module stands for: an assignment of the module itself, or of one from which it imports the
-    /// name, through at most 64 modules.
-    pub(crate) fn find_symbol(&self, scope: Scope, name: &str) -> Option<Symbol> {
+    /// What a name at a lexical item of a module stands for: an assignment of the module itself, or of one from which
+    /// it imports the name, through at most 64 modules.
+    fn follow(&self, scope: Scope, name: &str, place: usize) -> Result<Symbol, Lost<'a>> {
+        let mut searched = scope;
         let mut scope = scope;
+        let mut place = place;
+        let mut first = None;
         for _ in 0..MOST_MODULES {
-            if let Some(found) = self.find_in(scope, name) {
-                return Some(found);
+            if let Some(found) = self.find_in(searched, name) {
+                return Ok(found);
             }
-            let (import, _) = self.import_of(scope, name)?;
-            scope = self.find_module(import.module.text.as_str())?;
-            if !self.exports(scope, name) {
-                return None;
+            let Some((import, symbol)) = self.import_of(searched, name) else {
+                return Err(Lost::Missing(scope, place, searched));
+            };
+            scope = searched;
+            place = symbol.place;
+            first = first.or(Some(Lost::Circular(scope, place)));
+            match self.find_module(import.module.text.as_str()) {
+                Some(exporter) if self.keeps(exporter, name) => {
+                    return Err(Lost::NotExported(scope, place));
+                }
+                Some(exporter) => searched = exporter,
+                None => return Err(Lost::NoModule(scope, &import.module)),
             }
         }
-        None
+        Err(first.unwrap_or(Lost::Circular(scope, place)))
+    }
+
+    /// What a name in a module stands for, if it stands for something.
+    pub(crate) fn find_symbol(&self, scope: Scope, name: &str) -> Option<Symbol> {
+        self.follow(scope, name, 0).ok()
     }
 
     /// What a name in a module stands for, after the name of a module if that is given.
@@ -427,35 +456,22 @@ impl<'a, 'i> Files<'a, 'i> {
                 None => Err(unknown_symbol(self, scope, searched, text, name.place, missing)),
             };
         }
-        match self.find_symbol(scope, text) {
-            Some(found) => Ok(found),
-            None => Err(self.missed(scope, name, missing)),
+        match self.follow(scope, text, name.place) {
+            Ok(found) => Ok(found),
+            Err(lost) => Err(self.explained(lost, text, missing)),
         }
     }
 
-    /// Why a name in a module stands for nothing.
-    fn missed(&self, scope: Scope, name: &Name, missing: Problem) -> NotationError {
-        let text = name.text.as_str();
-        let mut scope = scope;
-        let mut searched = scope;
-        let mut place = name.place;
-        let mut first = None;
-        for _ in 0..MOST_MODULES {
-            let Some((import, symbol)) = self.import_of(searched, text) else {
-                return unknown_symbol(self, scope, searched, text, place, missing);
-            };
-            scope = searched;
-            place = symbol.place;
-            first = first.or(Some(scope.error(place, Problem::Circular)));
-            match self.find_module(import.module.text.as_str()) {
-                Some(exporter) if self.keeps(exporter, text) => {
-                    return scope.error(place, Problem::NotExported);
-                }
-                Some(exporter) => searched = exporter,
-                None => return unknown_module(self, scope, &import.module),
+    /// An error where a name stands for nothing, with the problem that is given if no module has it.
+    fn explained(&self, lost: Lost<'_>, name: &str, missing: Problem) -> NotationError {
+        match lost {
+            Lost::Missing(scope, place, searched) => {
+                unknown_symbol(self, scope, searched, name, place, missing)
             }
+            Lost::NoModule(scope, module) => unknown_module(self, scope, module),
+            Lost::NotExported(scope, place) => scope.error(place, Problem::NotExported),
+            Lost::Circular(scope, place) => scope.error(place, Problem::Circular),
         }
-        first.unwrap_or(scope.error(place, Problem::Circular))
     }
 
     /// The first assignment with a name, of all modules or of the one that is named.

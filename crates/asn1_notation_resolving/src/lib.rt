@@ -2,6 +2,7 @@
 #![tactic(auto, using(std::proofs::lemmas::Grind::common_steps))]
 
 mod bases;
+mod identifiers;
 mod kinds;
 mod limits;
 mod sets;
@@ -9,10 +10,10 @@ mod tags;
 
 pub use asn1_notation_names::{
     Explained, Files, Index, NameSet, Near, NotationError, Numbered, Numbers, Problem, Scope,
-    Symbol, TypeUse, ValueUse, arcs_of, integer_of, item_of, number_of, numbers_of, settled,
-    type_of_symbol,
+    Symbol, TypeUse, ValueUse, integer_of, item_of, number_of, numbers_of, settled, type_of_symbol,
 };
 pub use bases::{Base, ConstraintUse, base_of};
+pub use identifiers::arcs_of;
 pub use kinds::check_kinds;
 pub use limits::{alphabet, number_limits, permits, sizes};
 pub use tags::{is_written_tagged, tagged_base};

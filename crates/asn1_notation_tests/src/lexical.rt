@@ -1,7 +1,6 @@
 //! Lexical items, and lines and columns.
 use asn1_notation_tokens::{
-    Item, ItemKind, LexicalError, LexicalFault, Position, Symbol, WORDS, Word, line_and_column,
-    read_items,
+    Item, ItemKind, Position, Symbol, WORDS, Word, line_and_column, read_items,
 };
 use std::alloc::Global;
 
@@ -109,47 +108,6 @@ fn wrong_count(alloc: Global) -> Option<usize> {
 #[test]
 fn counted(rt: HostRuntime) {
     assert_eq!(rt; wrong_count(rt.alloc()), None);
-}
-
-/// Texts with a wrong item, what is wrong, and the index at which it begins.
-const WRONG: [(&str, LexicalFault, usize); 13] = [
-    ("a _", LexicalFault::UnexpectedCharacter, 2),
-    ("a #", LexicalFault::UnexpectedCharacter, 2),
-    ("a\u{E9}", LexicalFault::UnexpectedCharacter, 1),
-    ("a- b", LexicalFault::BadName, 0),
-    (" Ab-", LexicalFault::BadName, 1),
-    ("& a", LexicalFault::BadFieldName, 0),
-    ("a 01", LexicalFault::LeadingZero, 2),
-    (
-        "170141183460469231731687303715884105728",
-        LexicalFault::NumberTooLarge,
-        0,
-    ),
-    ("a /* /* */", LexicalFault::UnterminatedComment, 2),
-    ("a \"b\"\"", LexicalFault::UnterminatedString, 2),
-    ("'01", LexicalFault::UnterminatedString, 0),
-    ("'01' B", LexicalFault::MissingBase, 0),
-    ("'02'B", LexicalFault::BadDigit, 0),
-];
-
-/// The index of the first row that is not refused so.
-fn wrong_refusal(alloc: Global) -> Option<usize> {
-    for (index, (text, fault, offset)) in WRONG.iter().enumerate() {
-        let error = LexicalError {
-            offset: *offset,
-            fault: *fault,
-        };
-        match read_items(alloc, text.as_bytes()) {
-            Err(found) if found == error => {}
-            _ => return Some(index),
-        }
-    }
-    None
-}
-
-#[test]
-fn wrong_items(rt: HostRuntime) {
-    assert_eq!(rt; wrong_refusal(rt.alloc()), None);
 }
 
 /// Texts, an index, and its line and column.

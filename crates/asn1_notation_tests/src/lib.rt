@@ -1,14 +1,8 @@
-//! Tests of the notation of X.680: lexical items, lines and columns, modules that use every construct, and an error of
-//! each kind at its place.
+//! Tests of the notation of X.680 that no row of `asn1_notation_rows` says: lexical items, lines and columns, and calls
+//! of the rules.
 #![tactic(auto)]
 
 #[cfg(test)]
-mod common;
+mod calls;
 #[cfg(test)]
 mod lexical;
-#[cfg(test)]
-mod modules;
-#[cfg(test)]
-mod refused;
-#[cfg(test)]
-mod terms;

@@ -1,6 +1,6 @@
 -- The levels fall where an object identifier begins with another.
 use Rattle.std.proofs.Common.{◌+◌, ◌*◌}
-use Rattle.asn1_notation_names.proofs.identifiers.Arcs.+arcs.Given as goal
+use Rattle.asn1_notation_resolving.proofs.identifiers.Arcs.+arcs.Given as goal
 
 abbrev pub decreases-add_all : goal.decreases-add_all
 decreases-add_all l = 4 * l.levels + 3

@@ -1,7 +1,5 @@
 //! Object identifiers (X.680 32).
-use crate::errors::{NotationError, Problem};
-use crate::numbers::{ValueUse, referenced, settled};
-use crate::scopes::{Files, Scope};
+use asn1_notation_names::{Files, NotationError, Problem, Scope, ValueUse, settled, value_named};
 use asn1_notation_tree::{Arc, ListElement, Name, ValueKind};
 use std::alloc::Global;
 
@@ -158,7 +156,7 @@ impl Arcs<'_, '_, '_> {
         if levels == 0 {
             return Err(scope.error(name.place, Problem::Circular));
         }
-        let at = settled(self.files, referenced(self.files, scope, module, name)?)?;
+        let at = settled(self.files, value_named(self.files, scope, module, name)?)?;
         match &self.files.value_term(at.scope, at.index)?.kind {
             ValueKind::Number(number) => self.add_arc(at, *number),
             _ if self.arcs.is_empty() => self.add_all(at, levels - 1),
