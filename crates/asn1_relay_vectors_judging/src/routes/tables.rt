@@ -1,11 +1,12 @@
-//! Routes between two types of tables, of which one is a newer version of the other.
+//! Routes between two types of tables: each hop is a translation by the type of its version.
 use crate::cuts::Inputs;
+use crate::judged::{Judged, Rules};
 use crate::routes::{Claim, Versions, Way, judge};
 use crate::tables::Assignments;
 use asn1_notation_types::Table;
+use asn1_relay_core::{Hop, RouteFault, RouteFaultKind, Version};
 use asn1_relay_vectors_lines::line::{LineError, Verdict};
 use asn1_relay_vectors_lines::route::Arrival;
-use asn1_table_routes::{Versions as TableVersions, route_by};
 use std::alloc::Global;
 
 /// The tables of an older and of a newer version of a type.
@@ -16,17 +17,29 @@ struct Pair {
 }
 
 impl Pair {
-    /// Checks that one is a newer version of the other.
-    fn check(&self, alloc: Global) -> Verdict {
-        let older = &self.older;
-        let newer = &self.newer;
-        match TableVersions::new(alloc, &older.types, older.place, &newer.types, newer.place) {
-            Ok(_) => Ok(()),
-            Err(error) => {
-                let found = format!(in alloc; "{error}")?;
-                Err(LineError::Otherwise(found))
-            }
+    /// The outcome for octets that are sent over hops.
+    fn pass(&self, alloc: Global, way: Way<'_>, octets: &[u8]) -> Arrival {
+        let mut from = way.from;
+        let mut message = Vec::from_slice(alloc, octets).map_err(|_| RouteFault {
+            hop: 0,
+            kind: RouteFaultKind::Memory,
+        })?;
+        for place in 0..way.hops.len() {
+            let Hop { version, to } = way.hops[place];
+            let table = match version {
+                Version::Old => &self.older,
+                Version::New => &self.newer,
+            };
+            let rules = Rules { from, to };
+            message = table
+                .translate(alloc, rules, message.as_slice())
+                .map_err(|fault| RouteFault {
+                    hop: place,
+                    kind: RouteFaultKind::from(fault),
+                })?;
+            from = to;
         }
+        Ok(message)
     }
 }
 
@@ -35,12 +48,7 @@ impl Versions for Pair {
         if way.hops.is_empty() {
             return None;
         }
-        let older = &self.older;
-        let newer = &self.newer;
-        match TableVersions::new(alloc, &older.types, older.place, &newer.types, newer.place) {
-            Ok(versions) => Some(route_by(alloc, &versions, way.hops, way.from, octets)),
-            Err(_) => None,
-        }
+        Some(self.pass(alloc, way, octets))
     }
 
     fn foretell(&self, _alloc: Global, _place: usize, _way: Way<'_>) -> Option<Arrival> {
@@ -53,8 +61,7 @@ impl Versions for Pair {
 ///
 /// # Errors
 ///
-/// `NoType` if there are none, or the line is not of one route, `Otherwise` if one is no newer version of the other,
-/// and those of `judge`.
+/// `NoType` if there are none, or the line is not of one route, and those of `judge`.
 pub fn judge_tables(
     inputs: &mut Inputs,
     types: &mut Assignments,
@@ -71,6 +78,5 @@ pub fn judge_tables(
         older: types.table(older.as_str(), "")?,
         newer: types.table(newer.as_str(), "")?,
     };
-    pair.check(alloc)?;
     judge(inputs, &pair, &pair.older, &pair.newer, name, claim)
 }
