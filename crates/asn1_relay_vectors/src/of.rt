@@ -25,6 +25,10 @@ impl<T: Encode + Decode> Judged for Of<T> {
         true
     }
 
+    fn longest(&self) -> usize {
+        usize::MAX
+    }
+
     fn translate(&self, alloc: Global, rules: Rules, octets: &[u8]) -> Translated {
         recode::<T>(alloc, rules.from, rules.to, octets)
     }

@@ -38,6 +38,10 @@ impl<T: Encode + Decode> Judged for Under<T> {
         false
     }
 
+    fn longest(&self) -> usize {
+        usize::MAX
+    }
+
     fn translate(&self, alloc: Global, rules: Rules, octets: &[u8]) -> Translated {
         let constraints = self.limits.constraints();
         let value: T = read(alloc, &constraints, rules.from, octets)?;

@@ -8,11 +8,18 @@ use asn1_relay_vectors_lines::line::{Limit, LineError, Verdict};
 use asn1_relay_vectors_lines::octets::shown;
 use std::alloc::{AllocError, Global};
 
-/// The longest input that is truncated at each octet. Truncated prefixes of longer ones hold 10^9 octets or more.
-const LONGEST: usize = 20_000;
-
-/// The first octets and the length of a list of 16,385 elements, whose truncated prefixes hold 10^9 elements.
-const LIST: ([u8; 4], usize) = ([0x02, 0x40, 0x01, 0xFF], 16_388);
+/// The first octet and the length of inputs for which truncation at each octet would cost decoders 10^9 steps: a list
+/// of 16,385 elements, and fragments followed by 16,384 octets or more.
+const HEAVY: [(u8, usize); 8] = [
+    (0x02, 16_388),
+    (0xC1, 81_923),
+    (0xC2, 49_155),
+    (0xC3, 65_538),
+    (0xC4, 80_003),
+    (0xC4, 81_923),
+    (0xC4, 81_924),
+    (0xC4, 131_075),
+];
 
 /// The number of sets of rules whose encodings differ. The strict rules after them encode as two of these do, and a
 /// relay from the strict rules goes to those.
@@ -209,7 +216,7 @@ fn try_input(
     tries: &mut Tries,
 ) -> Result<Fronts, LineError> {
     let Input { octets, .. } = input;
-    let lengths = lengths_of(alloc, octets)?;
+    let lengths = lengths_of(alloc, of, octets)?;
     let mut fronts = [Found::NOTHING; 6];
     for place in 0..CODECS.len() {
         let reading = Reading {
@@ -234,9 +241,9 @@ fn try_input(
 }
 
 /// The lengths of the prefixes that are tried, in ascending order, in octets.
-fn lengths_of(alloc: Global, octets: &[u8]) -> Result<Vec<usize>, LineError> {
+fn lengths_of(alloc: Global, of: &dyn Judged, octets: &[u8]) -> Result<Vec<usize>, LineError> {
     let all = octets.len();
-    let is_heavy = is_heavy(octets);
+    let is_heavy = all > of.longest() || is_heavy(octets);
     let mut lengths = Vec::new(alloc);
     for length in 0..=all {
         let is_near = length <= ENDS || all.saturating_sub(length) <= ENDS;
@@ -247,10 +254,12 @@ fn lengths_of(alloc: Global, octets: &[u8]) -> Result<Vec<usize>, LineError> {
     Ok(lengths)
 }
 
-/// Whether octets are truncated near their ends only.
+/// Whether octets are truncated near their ends only, over any type.
 fn is_heavy(octets: &[u8]) -> bool {
-    let (begins, length) = LIST;
-    octets.len() > LONGEST || octets.len() == length && octets.starts_with(&begins)
+    match octets.first() {
+        Some(first) => HEAVY.contains(&(*first, octets.len())),
+        None => false,
+    }
 }
 
 /// Octets, the lengths of the prefixes that are tried, and the rules by which they are decoded.
@@ -271,8 +280,8 @@ impl<'a> Reading<'a> {
             let to = CODECS[*length % CODECS.len()];
             tries.cuts = tries.cuts.saturating_add(1);
             match self.front(of, to, part(self.octets, 0, *length), tries) {
-                Ok(_) => {
-                    found.least = Some(*length);
+                Ok(told) => {
+                    found.least = Some(told.taken.unwrap_or(*length));
                     return Ok(found);
                 }
                 Err(error) => {

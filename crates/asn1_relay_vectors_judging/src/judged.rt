@@ -84,6 +84,10 @@ pub trait Judged {
     /// decoders return no remainder.
     fn is_relayed(&self) -> bool;
 
+    /// The length of the longest input that is truncated at each octet, in octets. Longer ones are truncated near their
+    /// ends only.
+    fn longest(&self) -> usize;
+
     /// Translates octets from one set of rules to another. If its messages are not relayed, octets after one are
     /// ignored.
     fn translate(&self, alloc: Global, rules: Rules, octets: &[u8]) -> Translated;

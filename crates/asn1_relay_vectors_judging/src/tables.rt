@@ -148,6 +148,10 @@ impl Judged for Table {
         true
     }
 
+    fn longest(&self) -> usize {
+        20_000
+    }
+
     fn translate(&self, alloc: Global, rules: Rules, octets: &[u8]) -> Translated {
         recode_by(alloc, &self.types, self.place, rules.from, rules.to, octets)
     }
