@@ -1,8 +1,8 @@
 //! Whether the components of a SEQUENCE, a SET or a group of additions are those of a newer version (X.680 25 and 27).
 ghost use Rattle.std.specs.Prelude.{◌≡◌, ◌↔◌, All, Contains, IfErr, IsTrue, OnOk, false, ◌≤◌, ◌⊎◌};
 ghost use Rattle.asn1_model.specs.Versions.{Begins};
-ghost use Rattle.asn1_table_extending.specs.Differing.{ComponentDiffers, ComponentsDiffer, CountsDiffer, IsDue, PresencesDiffer};
-ghost use Rattle.asn1_table_extending.specs.Differing.{TablesDiffer};
+ghost use Rattle.asn1_table_extending.specs.Differing.{ComponentDiffers, ComponentsDiffer, CountsDiffer, IsDue};
+ghost use Rattle.asn1_table_extending.specs.Differing.{PresencesDiffer, TablesDiffer};
 ghost use Rattle.asn1_table_extending.specs.Leading.{AddsOnly, ComponentParts, TableParts};
 ghost use Rattle.asn1_table_extending.specs.Matching.{ComponentMatches, ComponentsMatch, IsListed, PresencesMatch};
 ghost use Rattle.asn1_table_extending.specs.Matching.{TablesMatch};

@@ -19,7 +19,8 @@ pub struct Pair {
 pub fn add_pair(pairs: &mut Vec<Pair>, pair: Pair) -> Result<(), AllocError>
     ensures listed { OnOk result (IsListed pairs.new.items pair.older pair.newer) }
     ensures kept { OnOk result (Begins pairs.old.items pairs.new.items) }
-    ensures added { OnOk result (AddsOnly (λ i j. (pair.older ≡ i) × (pair.newer ≡ j)) pairs.old.items pairs.new.items) }
+    ensures added { OnOk result (AddsOnly (λ i j. (pair.older ≡ i) × (pair.newer ≡ j)) pairs.old.items
+        pairs.new.items) }
 {
     if is_listed(pairs.as_slice(), pair) {
         return Ok(());
