@@ -70,8 +70,8 @@ pub fn route<Old: Encode + Decode, New: Encode + Decode + Extends<Old>>(
     )
 }
 
-/// As `route`, for messages of any two types that are passed. Neither has to be a newer version of the other, so nothing
-/// is said here of what arrives of a value: this is the chain of `recode_of` alone.
+/// As `route`, for messages of any two types that are passed. Neither has to be a newer version of the other, so
+/// nothing is said here of what arrives of a value: this is the chain of `recode_of` alone.
 ///
 /// # Errors
 ///
