@@ -1,43 +1,37 @@
 -- What a run over a type of a table does with its reader and its writer, whose octets are those that the one will still
 -- return and the other holds, if they are known.
-use Rattle.std.specs.Prelude.{◌≡◌, ◌≤◌, ℕ, List, Option, Some, None, IsSome, false, true}
+use Rattle.std.specs.Prelude.{◌≡◌, ℕ, List, Option, Some, None, IsSome, false, true}
 use Rattle.asn1_model.specs.Lawful.{is_of}
 use Rattle.asn1_model.specs.Schema.{Schema}
 use Rattle.asn1_model.specs.Value.{Value}
 use Rattle.asn1_notation_types.specs.declared.tables.Table.{Table}
-use Rattle.asn1_relay_command.specs.Runs.{DoesOnceAs, DoesStreamAs, HasWritten, IsRunFaultAs, IsUntouched, Known}
-use Rattle.asn1_relay_command.specs.Runs.{StopsOnceAs}
+use Rattle.asn1_relay_command.specs.Runs.{DoesOnceAs, DoesRouteAs, DoesStreamAs, HasWritten, IsRunFaultAs, IsUntouched}
+use Rattle.asn1_relay_command.specs.Runs.{Known, StopsOnceAs, StopsRouteAs}
 use Rattle.asn1_relay_command.specs.declared.fault.Fault.{Fault}
 use Rattle.asn1_relay_core.specs.Coding.{IsWritten, rules_of}
 use Rattle.asn1_relay_core.specs.declared.codec.Codec.{Codec}
 use Rattle.asn1_schema_laws.specs.Tables.{IsValue}
+use Rattle.asn1_table_routes.specs.Schemas.{IsNewer, newer_of, older_of}
+use Rattle.asn1_table_routes.specs.declared.versions.Versions.{Versions}
 use Rattle.asn1_table_nodes.specs.Meaning.{type_at}
 use Rattle.asn1_module_command.specs.Checks.{HasChecked, StopsChecking}
 use Rattle.asn1_module_command.specs.declared.errors.CommandError.{CommandError}
 use Rattle.asn1_module_command.specs.declared.errors.CommandError.TheVariants as error
 use Rattle.asn1_module_command.specs.declared.errors.Stop.{Stop}
 use Rattle.asn1_module_command.specs.declared.errors.Stop.TheVariants as stop
-use Rattle.asn1_module_command.specs.declared.order.Action.{Action}
-use Rattle.asn1_module_command.specs.declared.order.Action.TheVariants as action
-use Rattle.asn1_module_command.specs.declared.order.Extent.{Extent}
-use Rattle.asn1_module_command.specs.declared.order.Extent.TheVariants as extent
-use Rattle.asn1_module_command.specs.declared.order.Form.{Form}
-use Rattle.asn1_module_command.specs.declared.order.Form.TheVariants as form
-use Rattle.asn1_module_command.specs.declared.order.Order.{Order}
-use Rattle.asn1_module_command.specs.declared.order.Translation.{Translation}
+use Rattle.asn1_module_order.specs.declared.order.Action.{Action}
+use Rattle.asn1_module_order.specs.declared.order.Action.TheVariants as action
+use Rattle.asn1_module_order.specs.declared.order.Extent.{Extent}
+use Rattle.asn1_module_order.specs.declared.order.Extent.TheVariants as extent
+use Rattle.asn1_module_order.specs.declared.order.Form.{Form}
+use Rattle.asn1_module_order.specs.declared.order.Form.TheVariants as form
+use Rattle.asn1_module_order.specs.declared.order.Order.{Order}
+use Rattle.asn1_module_order.specs.declared.order.Route.{Route}
+use Rattle.asn1_module_order.specs.declared.order.Translation.{Translation}
 
 -- the type of a table
 abbrev pub schema_in : Table → Schema
 schema_in t = type_at t.types.nodes.items 128 t.place
-
--- a stream has a limit of at least one octet
-abbrev pub IsBounded : Extent → Type 0
-IsBounded extent.Message = Unit {0}
-IsBounded (extent.Stream limit) = 1 ≤ limit
-
-abbrev pub CanBeDone : Action → Type 0
-CanBeDone (action.Translate t) = IsBounded t.extent
-CanBeDone a = Unit {0}
 
 -- the fault of an error, if it is one that the types of the program can have
 abbrev pub fault_in : CommandError → Option Fault
@@ -107,41 +101,72 @@ abbrev pub StopsTranslating : Translation → Schema → Known → Known → Kno
 StopsTranslating t s unread unread' held held' e =
     t.is_hexadecimal ≡ false → StopsIn t.extent s t.to t.from unread unread' held held' e
 
+-- ---- routes
+
+-- everything was read and sent from hop to hop, with two versions of a type, and what arrived was written; nothing is
+-- said of hexadecimal digits
+abbrev pub HasRouted : Route → Versions → Known → Known → Known → Known → Type 0
+HasRouted r v unread unread' held held' =
+    r.is_hexadecimal ≡ false →
+    DoesRouteAs (older_of v 128) (newer_of v 128) r.from r.hops.items unread unread' held held'
+
+-- an error stops this, which names such a fault
+pub record StopsBetween (r : Route) (v : Versions) (unread unread' held held' : Known) (e : CommandError) : Type 0 where
+  pub fault : Fault
+  pub names : fault_in e ≡ Some fault
+  pub stops : StopsRouteAs (older_of v 128) (newer_of v 128) r.from r.hops.items unread unread' held held' fault
+
+abbrev pub StopsRouting : Route → Versions → Known → Known → Known → Known → CommandError → Type 0
+StopsRouting r v unread unread' held held' e =
+    r.is_hexadecimal ≡ false → StopsBetween r v unread unread' held held' e
+
+-- this holds of two types of tables, of which one is a newer version of the other (X.680 52)
+pub record OfVersions (P : Versions → Type 0) : Type 0 where
+  pub versions : Versions
+  pub newer : IsNewer versions
+  pub holds : P versions
+
+-- nothing was read and nothing written, since there are no two such versions, or else such an error stops this
+abbrev pub StopsSending : Route → Known → Known → Known → Known → Stop → Type 0
+StopsSending r unread unread' held held' (stop.Module e) = IsUntouched unread unread' held held'
+StopsSending r unread unread' held held' (stop.Command e) =
+    OfVersions (λ v. StopsRouting r v unread unread' held held' e)
+
 -- ---- orders
+
+-- this holds of the type of a table, all of whose types are lawful
+pub record OfType (P : Schema → Type 0) : Type 0 where
+  pub table : Table
+  pub holds : P (schema_in table)
 
 -- what was requested of a type is done; nothing is said of a message in hexadecimal digits, and of a type that is
 -- printed
-abbrev pub HasActed : Action → Schema → Known → Known → Known → Known → Type 0
-HasActed (action.Translate t) s unread unread' held held' = HasTranslated t s unread unread' held held'
-HasActed (action.Check rules is_hexadecimal) s unread unread' held held' =
-    is_hexadecimal ≡ false → HasChecked s rules unread unread' held held'
-HasActed a s unread unread' held held' = Unit {0}
+abbrev pub IsDone : Action → Known → Known → Known → Known → Type 0
+IsDone (action.Translate t) unread unread' held held' = OfType (λ s. HasTranslated t s unread unread' held held')
+IsDone (action.Check rules is_hexadecimal) unread unread' held held' =
+    OfType (λ s. is_hexadecimal ≡ false → HasChecked s rules unread unread' held held')
+IsDone (action.Route r) unread unread' held held' = OfVersions (λ v. HasRouted r v unread unread' held held')
+IsDone action.Print unread unread' held held' = Unit {0}
 
 -- an error stops this
-abbrev pub StopsActing : Action → Schema → Known → Known → Known → Known → CommandError → Type 0
-StopsActing (action.Translate t) s unread unread' held held' e = StopsTranslating t s unread unread' held held' e
-StopsActing (action.Check rules is_hexadecimal) s unread unread' held held' e =
-    is_hexadecimal ≡ false → StopsChecking s rules unread unread' held held' e
-StopsActing a s unread unread' held held' e = Unit {0}
+abbrev pub IsStopped : Action → Known → Known → Known → Known → CommandError → Type 0
+IsStopped (action.Translate t) unread unread' held held' e =
+    OfType (λ s. StopsTranslating t s unread unread' held held' e)
+IsStopped (action.Check rules is_hexadecimal) unread unread' held held' e =
+    OfType (λ s. is_hexadecimal ≡ false → StopsChecking s rules unread unread' held held' e)
+IsStopped (action.Route r) unread unread' held held' e = OfVersions (λ v. StopsRouting r v unread unread' held held' e)
+IsStopped action.Print unread unread' held held' e = Unit {0}
 
--- it is done for the type of a table, all of whose types are lawful
-pub record IsDoneFor (a : Action) (unread unread' held held' : Known) : Type 0 where
-  pub table : Table
-  pub done : HasActed a (schema_in table) unread unread' held held'
-
-pub record IsStoppedFor (a : Action) (unread unread' held held' : Known) (e : CommandError) : Type 0 where
-  pub table : Table
-  pub stops : StopsActing a (schema_in table) unread unread' held held' e
-
--- status 0: for a table of lawful types, what was requested of the type is done; which table is not said
+-- status 0: what was requested of the type is done, for some table or tables; which ones is not said
 abbrev pub HasDone : Order → Known → Known → Known → Known → Type 0
-HasDone o unread unread' held held' = IsSome o.type_name → IsDoneFor o.action unread unread' held held'
+HasDone o unread unread' held held' = IsSome o.type_name → IsDone o.action unread unread' held held'
 
--- nothing was read and nothing written, since there is no table, or else an error stops what was requested of the type
+-- nothing was read and nothing written, since there is no table, or one does not extend the other, or else an error
+-- stops what was requested of the type
 abbrev pub StopsAt : Order → Known → Known → Known → Known → Stop → Type 0
 StopsAt o unread unread' held held' (stop.Module e) = IsUntouched unread unread' held held'
 StopsAt o unread unread' held held' (stop.Command e) =
-    IsSome o.type_name → IsStoppedFor o.action unread unread' held held' e
+    IsSome o.type_name → IsStopped o.action unread unread' held held' e
 
 -- status 1: one of these
 pub record HasFailed (o : Order) (unread unread' held held' : Known) : Type 0 where

@@ -1,6 +1,7 @@
 //! Why the program stops, and its messages.
 ghost use Rattle.std.specs.Prelude.{◌≡◌};
 
+use asn1_module_tables::ModuleError;
 use asn1_relay_command::Fault;
 use asn1_relay_core::RunFault;
 use asn1_table_json_reading::JsonError;
@@ -9,39 +10,6 @@ use asn1_table_locating::Refused;
 use std::alloc::{AllocError, AllocFailed};
 use std::fmt;
 use thiserror::Error;
-
-/// Why there is no table of a type.
-#[derive(Debug, Drop)]
-pub enum ModuleError {
-    /// Something is wrong at an octet of a module's text.
-    Text {
-        /// The index of the file.
-        file: usize,
-        /// The octet, from 0.
-        offset: usize,
-        /// What is wrong.
-        problem: String,
-    },
-    /// No module has the type.
-    NoType {
-        /// What is wrong.
-        problem: String,
-    },
-    /// Memory ran out.
-    OutOfMemory,
-}
-
-impl From<AllocError> for ModuleError {
-    fn from(_refused: AllocError) -> Self {
-        ModuleError::OutOfMemory
-    }
-}
-
-impl<T: Drop> From<AllocFailed<T>> for ModuleError {
-    fn from(_refused: AllocFailed<T>) -> Self {
-        ModuleError::OutOfMemory
-    }
-}
 
 /// Where a message is refused, or octets follow it.
 #[derive(Debug, Drop)]

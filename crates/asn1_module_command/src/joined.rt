@@ -1,7 +1,7 @@
 //! Streams of messages where one side is JSON: one message in each line.
 use crate::errors::CommandError;
-use crate::order::{Form, Translation};
 use crate::values::Typed;
+use asn1_module_order::{Form, Translation};
 use asn1_relay_command::{Fault, write_all};
 use asn1_relay_core::{Codec, DecodeError, MessageType, RelayFault, RelayFaultKind};
 use asn1_table_tape::Event;

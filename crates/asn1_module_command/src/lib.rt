@@ -1,4 +1,4 @@
-//! The command of the program where types come from ASN.1 modules (`--module FILE`).
+//! The command of the program where types come from ASN.1 modules (`--module FILE`, or `--old FILE` and `--new FILE`).
 #![tactic(auto, using(std::proofs::lemmas::Grind::common_steps))]
 
 mod checking;
@@ -6,14 +6,11 @@ mod errors;
 mod hexadecimal;
 mod joined;
 mod locating;
-mod order;
 mod program;
-mod sources;
+mod routing;
 mod translating;
 mod values;
 
-pub use errors::{CommandError, ModuleError, Place, Stop};
-pub use order::{Action, Extent, Form, Order, Translation, names_modules, read_order};
+pub use errors::{CommandError, Place, Stop};
 pub use program::{module_command, obey};
-pub use sources::{Source, write_module_error};
 pub use translating::translate;

@@ -2,16 +2,18 @@
 ghost use Rattle.std.specs.Prelude.{◌≡◌, ◌≤◌, MatchResult, false};
 ghost use Rattle.asn1_relay_command.specs.Runs.{IsUntouched};
 ghost use Rattle.asn1_module_command.specs.Checks.{HasChecked, IsSaid, StopsChecking, StopsSaying};
-ghost use Rattle.asn1_module_command.specs.Runs.{CanBeDone, HasActed, HasDone, HasFailed, StopsActing, StopsAt};
+ghost use Rattle.asn1_module_command.specs.Runs.{HasDone, HasFailed, HasTranslated, OfType, StopsAt, StopsTranslating};
 ghost use Rattle.asn1_module_command.specs.Runs.{schema_in};
+ghost use Rattle.asn1_module_order.specs.Orders.{CanBeDone, IsBounded};
 
 use crate::checking::check_canonical;
 use crate::errors::{CommandError, Stop};
 use crate::hexadecimal::octets_of;
-use crate::order::{Action, Order, read_order};
-use crate::sources::{Source, read_files, table_named, write_module_error};
+use crate::routing::send_between;
 use crate::translating::translate;
 use crate::values::Typed;
+use asn1_module_order::{Action, Order, Translation, read_order};
+use asn1_module_tables::{Source, older_table, read_files, table_named, write_module_error};
 use asn1_notation_printing::{list_types, print_type};
 use asn1_notation_syntax::Syntax;
 use asn1_notation_types::Table;
@@ -48,7 +50,7 @@ pub fn module_command<F: Files + AllocGlobal, S: AsStr, R: Read, W: Write, E: Wr
         Ok(order) => order,
         Err(error) => return refuse(&error, errors),
     };
-    let sources = match read_sources(rt, order.modules.as_slice()) {
+    let sources = match read_sources(rt, &order) {
         Ok(sources) => sources,
         Err(unread) => return refuse_file(unread.name.as_str(), &unread.error, errors),
     };
@@ -97,8 +99,8 @@ fn obey_to<F: Files + AllocGlobal, R: Read, W: Write, E: Write>(
     }
 }
 
-/// Does what was requested with the modules of these files, from `input` to `output`, and returns the exit status, as
-/// `module_command` does.
+/// Does what was requested with the modules of these files, first those of `modules` and then those of `older`, from
+/// `input` to `output`, and returns the exit status, as `module_command` does.
 pub fn obey<R: Read, W: Write, E: Write>(
     alloc: Global,
     order: &Order,
@@ -141,13 +143,7 @@ fn attempt<R: Read, W: Write>(
             list(alloc, files.as_slice(), output)?;
             Ok(())
         }
-        Some(name) => {
-            let table = table_named(alloc, files.as_slice(), name.as_str(), order.options)?;
-            match act(alloc, &table, order.action, input, output) {
-                Ok(()) => Ok(()),
-                Err(error) => Err(Stop::Command(error)),
-            }
-        }
+        Some(name) => act(alloc, order, files.as_slice(), name.as_str(), input, output),
     }
 }
 
@@ -175,29 +171,83 @@ fn list<W: Write>(alloc: Global, files: &[Syntax], output: &mut W) -> Result<(),
     Ok(())
 }
 
-/// Does what was requested with a type.
+/// Does what was requested with the type of a name, in the modules of these files.
 fn act<R: Read, W: Write>(
     alloc: Global,
-    table: &Table,
-    action: Action,
+    order: &Order,
+    files: &[Syntax],
+    name: &str,
     input: &mut R,
     output: &mut W,
-) -> Result<(), CommandError>
-    requires { CanBeDone action }
+) -> Result<(), Stop>
+    requires { CanBeDone order.now.action }
     ensures { MatchResult result
-        (λ _. HasActed action (schema_in table.now)
+        (λ _. HasDone order.now
         (R.remaining input.old) (R.remaining input.new) (W.contents output.old) (W.contents output.new))
-        (StopsActing action (schema_in table.now)
+        (StopsAt order.now
         (R.remaining input.old) (R.remaining input.new) (W.contents output.old) (W.contents output.new)) }
 {
-    match action {
-        Action::Translate(translation) => translate(alloc, table, translation, input, output),
+    let count = order.modules.len().min(files.len());
+    let (modules, older) = files.split_at(count);
+    let table = table_named(alloc, modules, name, order.options)?;
+    match &order.action {
+        Action::Translate(translation) => {
+            translate_as(alloc, &table, *translation, input, output)?;
+            Ok(())
+        }
         Action::Check {
             rules,
             is_hexadecimal,
-        } => check(Typed { alloc, table }, rules, is_hexadecimal, input, output),
-        Action::Print => print(alloc, table, output),
+        } => {
+            check_as(alloc, &table, *rules, *is_hexadecimal, input, output)?;
+            Ok(())
+        }
+        Action::Route(route) => {
+            let older = older_table(alloc, older, count, name, order.options)?;
+            send_between(alloc, &older, &table, route, input, output)?;
+            Ok(())
+        }
+        Action::Print => {
+            print(alloc, &table, output)?;
+            Ok(())
+        }
     }
+}
+
+/// Translates what was requested, as messages of the type of a table.
+fn translate_as<R: Read, W: Write>(
+    alloc: Global,
+    table: &Table,
+    translation: Translation,
+    input: &mut R,
+    output: &mut W,
+) -> Result<(), CommandError>
+    requires { IsBounded translation.extent }
+    ensures { MatchResult result
+        (λ _. OfType (λ s. HasTranslated translation s
+        (R.remaining input.old) (R.remaining input.new) (W.contents output.old) (W.contents output.new)))
+        (λ e. OfType (λ s. StopsTranslating translation s
+        (R.remaining input.old) (R.remaining input.new) (W.contents output.old) (W.contents output.new) e)) }
+{
+    translate(alloc, table, translation, input, output)
+}
+
+/// Says that a message of the type of a table, the whole input, is canonical.
+fn check_as<R: Read, W: Write>(
+    alloc: Global,
+    table: &Table,
+    rules: Codec,
+    is_hexadecimal: bool,
+    input: &mut R,
+    output: &mut W,
+) -> Result<(), CommandError>
+    ensures { MatchResult result
+        (λ _. OfType (λ s. is_hexadecimal ≡ false → HasChecked s rules
+        (R.remaining input.old) (R.remaining input.new) (W.contents output.old) (W.contents output.new)))
+        (λ e. OfType (λ s. is_hexadecimal ≡ false → StopsChecking s rules
+        (R.remaining input.old) (R.remaining input.new) (W.contents output.old) (W.contents output.new) e)) }
+{
+    check(Typed { alloc, table }, rules, is_hexadecimal, input, output)
 }
 
 /// Says that a message, the whole input, is canonical.
@@ -254,13 +304,10 @@ struct UnreadFile {
     error: io::Error,
 }
 
-/// Reads the files of modules.
-fn read_sources<F: Files + AllocGlobal>(
-    rt: &F,
-    names: &[String],
-) -> Result<Vec<Source>, UnreadFile> {
+/// Reads the files of modules, first those of `modules` and then those of `older`.
+fn read_sources<F: Files + AllocGlobal>(rt: &F, order: &Order) -> Result<Vec<Source>, UnreadFile> {
     let mut sources = Vec::new(rt.alloc());
-    for name in names {
+    for name in order.modules.iter().chain(order.older.iter()) {
         let read = match fs::read(rt, name.as_str()) {
             Ok(text) => source_of(rt.alloc(), name.as_str(), text),
             Err(error) => Err(error),

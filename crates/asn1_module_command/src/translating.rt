@@ -1,13 +1,14 @@
 //! Messages of a type of a table are translated from one form to another.
 ghost use Rattle.std.specs.Prelude.{◌≤◌, MatchResult, OnOk};
-ghost use Rattle.asn1_module_command.specs.Runs.{Does, Encodes, HasTranslated, IsBounded, StopsBy, StopsTranslating};
+ghost use Rattle.asn1_module_order.specs.Orders.{IsBounded};
+ghost use Rattle.asn1_module_command.specs.Runs.{Does, Encodes, HasTranslated, StopsBy, StopsTranslating};
 ghost use Rattle.asn1_module_command.specs.Runs.{WritesEncoding, schema_in};
 
 use crate::errors::CommandError;
 use crate::hexadecimal::{line_of, octets_of};
 use crate::joined::translate_joined;
-use crate::order::{Extent, Form, Translation};
 use crate::values::Typed;
+use asn1_module_order::{Extent, Form, Translation};
 use asn1_notation_types::Table;
 use asn1_relay_command::{Fault, read_all, translate_message, translate_stream, write_all};
 use asn1_relay_core::Codec;

@@ -8,7 +8,7 @@ ghost use Rattle.asn1_table_tape.specs.Records.{records_of};
 ghost use Rattle.asn1_module_command.specs.Runs.{IsEncoding, schema_in};
 
 use crate::errors::CommandError;
-use crate::order::Form;
+use asn1_module_order::Form;
 use asn1_notation_types::Table;
 use asn1_relay_command::Fault;
 use asn1_relay_core::{Codec, DecodeError, EncodeError, MessageType};

@@ -1,5 +1,7 @@
 //! Helpers of the tests.
-use asn1_module_command::{Source, obey, read_order};
+use asn1_module_command::obey;
+use asn1_module_order::read_order;
+use asn1_module_tables::Source;
 use std::alloc::Global;
 
 /// A module whose type `Awareness` the tests translate.
@@ -27,19 +29,27 @@ struct Outcome {
     errors: Vec<u8>,
 }
 
-/// What the command does with the module of a file `m.asn`, if the words are understood.
-fn run(alloc: Global, words: &[&str], module: &str, input: &[u8]) -> Option<Outcome> {
-    let order = read_order(alloc, words).ok()?;
+/// A file of modules.
+fn source(alloc: Global, name: &str, module: &str) -> Option<Source> {
     let mut text = Vec::new(alloc);
     text.extend_from_slice(module.as_bytes()).ok()?;
-    let name = String::from_str(alloc, "m.asn").ok()?;
-    let sources = [Source { name, text }];
+    let name = String::from_str(alloc, name).ok()?;
+    Some(Source { name, text })
+}
+
+/// What the command does with these files of modules, each a name and a text, if the words are understood.
+fn run(alloc: Global, words: &[&str], files: &[(&str, &str)], input: &[u8]) -> Option<Outcome> {
+    let order = read_order(alloc, words).ok()?;
+    let mut sources = Vec::new(alloc);
+    for (name, module) in files {
+        sources.push(source(alloc, name, module)?).ok()?;
+    }
     let (mut output, mut errors) = (Vec::new(alloc), Vec::new(alloc));
     let mut input = input;
     let status = obey(
         alloc,
         &order,
-        &sources,
+        sources.as_slice(),
         &mut input,
         &mut output,
         &mut errors,
@@ -62,7 +72,7 @@ pub type Row = (
 /// Whether the input of a row is translated, and nothing is said of errors.
 fn is_translated(alloc: Global, row: &Row) -> bool {
     let (words, module, input, expected) = *row;
-    match run(alloc, words, module, input) {
+    match run(alloc, words, &[("m.asn", module)], input) {
         Some(found) => {
             found.status == 0 && found.output.as_slice() == expected && found.errors.is_empty()
         }
@@ -89,7 +99,7 @@ pub fn is_refused(
     written: &[u8],
     said: &str,
 ) -> bool {
-    match run(alloc, words, module, input) {
+    match run(alloc, words, &[("m.asn", module)], input) {
         Some(found) => {
             found.status == 1
                 && found.output.as_slice() == written
@@ -97,4 +107,42 @@ pub fn is_refused(
         }
         None => false,
     }
+}
+
+/// Words, the module with the newer version, that with the older one, the input, what is written, and the error.
+pub type Routed = (
+    &'static [&'static str],
+    &'static str,
+    &'static str,
+    &'static [u8],
+    &'static [u8],
+    &'static str,
+);
+
+/// Whether the message of a row arrives as it says, or fails with its error.
+fn is_routed(alloc: Global, row: &Routed) -> bool {
+    let (words, newer, older, input, written, said) = *row;
+    match run(
+        alloc,
+        words,
+        &[("new.asn", newer), ("old.asn", older)],
+        input,
+    ) {
+        Some(found) => {
+            (found.status == 0) == said.is_empty()
+                && found.output.as_slice() == written
+                && found.errors.as_slice() == said.as_bytes()
+        }
+        None => false,
+    }
+}
+
+/// The index of the first row that is not so.
+pub fn first_astray(alloc: Global, rows: &[Routed]) -> Option<usize> {
+    for index in 0..rows.len() {
+        if !is_routed(alloc, &rows[index]) {
+            return Some(index);
+        }
+    }
+    None
 }

@@ -8,4 +8,6 @@ mod messages;
 #[cfg(test)]
 mod modules;
 #[cfg(test)]
+mod routes;
+#[cfg(test)]
 mod streams;

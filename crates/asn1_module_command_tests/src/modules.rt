@@ -1,6 +1,6 @@
 //! Modules in which something is wrong, and command lines.
 use crate::common::{Row, SMALL, first_wrong, is_refused};
-use asn1_module_command::{Action, Extent, Form, names_modules, read_order};
+use asn1_module_order::{Action, Extent, Form, names_modules, read_order};
 use asn1_notation_types::{Additions, OpenTypes};
 use asn1_relay_core::Codec;
 use clap::error::ErrorKind;
@@ -112,7 +112,7 @@ fn takes_options(alloc: Global) -> bool {
     let Ok(order) = read_order(alloc, &STREAM) else {
         return false;
     };
-    let is_right = match order.action {
+    let is_right = match &order.action {
         Action::Translate(translation) => {
             translation.extent == Extent::Stream { limit: 9 }
                 && translation.from == Form::Json
@@ -144,6 +144,7 @@ fn lists(rt: HostRuntime) {
 #[test]
 fn command_lines(rt: HostRuntime) {
     assert!(rt; names_modules(&WORDS) && names_modules(&["p", "--module=m"]));
+    assert!(rt; names_modules(&["p", "route", "--old", "m"]) && names_modules(&["p", "--new=m"]));
     assert!(rt; !names_modules(&["p", "once", "--type", "small"]));
     assert!(rt; takes_options(rt.alloc()));
     assert!(rt;
@@ -167,6 +168,15 @@ fn command_lines(rt: HostRuntime) {
             rt.alloc(),
             &[
                 "p", "stream", "--module", "m", "--type", "T", "--from", "coer", "--to", "oer"
+            ]
+        )
+    );
+    assert!(rt;
+        is_bad(
+            rt.alloc(),
+            &[
+                "p", "route", "--old", "m", "--new", "n", "--type", "T", "--from", "coer", "--hop",
+                "coer"
             ]
         )
     );

@@ -1,7 +1,8 @@
 //! Translates messages between encoding rules of ASN.1, from standard input to standard output.
 #![tactic(auto)]
 
-use asn1_module_command::{module_command, names_modules};
+use asn1_module_command::module_command;
+use asn1_module_order::names_modules;
 use asn1_relay_command::{command, refuse_arguments};
 use std::process::ExitCode;
 use std::{env, io};

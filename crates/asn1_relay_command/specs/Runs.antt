@@ -196,29 +196,43 @@ abbrev pub IsTurnedBackBy : Route → List ℕ → Fault → Type 0
 IsTurnedBackBy r message f = IsTurnedBackAs (older_named r.pair) (newer_named r.pair) r.from r.hops message f
 
 -- everything was read, and becomes these octets
-pub record IsSent (r : Route) (unread unread' : Known) (octets : List ℕ) : Type 0 where
+pub record IsSent (old new : Schema) (from : Codec) (hops : List Hop) (unread unread' : Known) (octets : List ℕ)
+    : Type 0 where
   pub message : List ℕ
   pub read : IsAllRead unread unread' message
-  pub arrives : ComesBy r message (arrived octets)
+  pub arrives : ComesAs old new from hops message (arrived octets)
 
--- everything was read and sent, and what arrived was written
+-- everything was read and sent, with two versions of a type, and what arrived was written
+abbrev pub DoesRouteAs : Schema → Schema → Codec → List Hop → Known → Known → Known → Known → Type 0
+DoesRouteAs old new from hops unread unread' held held' =
+    HasWritten (IsSent old new from hops unread unread') held held'
+
+-- the same for what was requested
 abbrev pub DoesRoute : Route → Known → Known → Known → Known → Type 0
-DoesRoute r unread unread' held held' = HasWritten (IsSent r unread unread') held held'
+DoesRoute r unread unread' held held' =
+    DoesRouteAs (older_named r.pair) (newer_named r.pair) r.from r.hops unread unread' held held'
 
 -- everything was read, and a hop rejected it
-pub record IsTurnedBack (r : Route) (unread unread' : Known) (f : Fault) : Type 0 where
+pub record IsTurnedBack (old new : Schema) (from : Codec) (hops : List Hop) (unread unread' : Known) (f : Fault)
+    : Type 0 where
   pub message : List ℕ
   pub read : IsAllRead unread unread' message
-  pub refuses : IsTurnedBackBy r message f
+  pub refuses : IsTurnedBackAs old new from hops message f
 
 -- an error before the message has arrived leaves the writer as it was
+abbrev pub StopsRouteAs : Schema → Schema → Codec → List Hop → Known → Known → Known → Known → Fault → Type 0
+StopsRouteAs old new from hops unread unread' held held' (fault.AtHop i kind) =
+    IsTurnedBack old new from hops unread unread' (fault.AtHop i kind) × Keeps held held'
+StopsRouteAs old new from hops unread unread' held held' fault.OutOfMemory = Keeps held held'
+StopsRouteAs old new from hops unread unread' held held' fault.ReadFailed = Keeps held held'
+StopsRouteAs old new from hops unread unread' held held' fault.WriteFailed =
+    IsCutOff (IsSent old new from hops unread unread') held held'
+StopsRouteAs old new from hops unread unread' held held' _ = ⊥
+
+-- the same for what was requested
 abbrev pub StopsRouteBy : Route → Known → Known → Known → Known → Fault → Type 0
-StopsRouteBy r unread unread' held held' (fault.AtHop i kind) =
-    IsTurnedBack r unread unread' (fault.AtHop i kind) × Keeps held held'
-StopsRouteBy r unread unread' held held' fault.OutOfMemory = Keeps held held'
-StopsRouteBy r unread unread' held held' fault.ReadFailed = Keeps held held'
-StopsRouteBy r unread unread' held held' fault.WriteFailed = IsCutOff (IsSent r unread unread') held held'
-StopsRouteBy r unread unread' held held' _ = ⊥
+StopsRouteBy r unread unread' held held' f =
+    StopsRouteAs (older_named r.pair) (newer_named r.pair) r.from r.hops unread unread' held held' f
 
 -- ---- what was requested
 

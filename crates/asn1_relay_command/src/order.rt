@@ -178,7 +178,7 @@ fn hop_named(name: &str) -> Option<Hop>
 }
 
 /// The hops with these names, in order, if each names one.
-fn hops_named(alloc: Global, names: &[&str]) -> Result<Option<Vec<Hop>>, AllocError>
+pub fn hops_named(alloc: Global, names: &[&str]) -> Result<Option<Vec<Hop>>, AllocError>
     ensures { IfOk result (λ hops. option_map (λ v. v.items) hops ≡ hops_by_names (map (λ s. s.now) names.now)) }
 {
     let mut hops = Vec::new(alloc);
@@ -292,7 +292,7 @@ fn grammar<'a>(alloc: Global) -> Result<Command<'a>, AllocError>
         .about("Translates messages between encoding rules of ASN.1")
         .after_help(
             "Types of your own: add --module FILE, as in asn1_relay once --module FILE --help. With it come json, \
-             check and types.",
+             check and types. Versions of your own: asn1_relay route --old FILE --help.",
         )
         .subcommand_required(true)
         .subcommand(once)?

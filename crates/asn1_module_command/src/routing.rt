@@ -1,0 +1,129 @@
+//! A message passes from hop to hop, each with the older or the newer version of its type.
+ghost use Rattle.std.specs.Prelude.{◌≡◌, ◌≢◌, [], MatchResult, false};
+ghost use Rattle.asn1_relay_command.specs.Runs.{ComesAs, DoesRouteAs, IsTurnedBackAs, StopsRouteAs};
+ghost use Rattle.asn1_relay_core.specs.Routing.{arrived};
+ghost use Rattle.asn1_table_routes.specs.Schemas.{IsNewer, newer_of, older_of};
+ghost use Rattle.asn1_module_command.specs.Runs.{HasRouted, OfVersions, StopsRouting, StopsSending};
+
+use crate::errors::{CommandError, Stop};
+use crate::hexadecimal::{line_of, octets_of};
+use asn1_module_order::Route;
+use asn1_module_tables::not_extended;
+use asn1_notation_types::Table;
+use asn1_relay_command::{Fault, read_all, write_all};
+use asn1_relay_core::{Codec, Hop};
+use asn1_table_routes::{Versions, route_by};
+use std::alloc::Global;
+use std::io::{Read, Write};
+
+/// Sends a message, the whole input, from hop to hop, if one type is a newer version of the other.
+pub(crate) fn send_between<R: Read, W: Write>(
+    alloc: Global,
+    older: &Table,
+    newer: &Table,
+    route: &Route,
+    input: &mut R,
+    output: &mut W,
+) -> Result<(), Stop>
+    requires { route.now.hops.items ≢ [] }
+    ensures { MatchResult result
+        (λ _. OfVersions (λ v. HasRouted route.now v
+        (R.remaining input.old) (R.remaining input.new) (W.contents output.old) (W.contents output.new)))
+        (StopsSending route.now
+        (R.remaining input.old) (R.remaining input.new) (W.contents output.old) (W.contents output.new)) }
+{
+    match Versions::new(alloc, &older.types, older.place, &newer.types, newer.place) {
+        Ok(versions) => match send(alloc, &versions, route, input, output) {
+            Ok(()) => Ok(()),
+            Err(error) => Err(Stop::Command(error)),
+        },
+        Err(error) => Err(Stop::Module(not_extended(alloc, older, newer, error))),
+    }
+}
+
+/// Sends a message, the whole input, from hop to hop, with octets as hexadecimal digits if that was requested.
+fn send<R: Read, W: Write>(
+    alloc: Global,
+    versions: &Versions<'_>,
+    route: &Route,
+    input: &mut R,
+    output: &mut W,
+) -> Result<(), CommandError>
+    requires some { route.now.hops.items ≢ [] }
+    requires newer { IsNewer versions.now }
+    ensures { MatchResult result
+        (λ _. HasRouted route.now versions.now
+        (R.remaining input.old) (R.remaining input.new) (W.contents output.old) (W.contents output.new))
+        (StopsRouting route.now versions.now
+        (R.remaining input.old) (R.remaining input.new) (W.contents output.old) (W.contents output.new)) }
+{
+    let hops = route.hops.as_slice();
+    if route.is_hexadecimal {
+        return send_digits(alloc, versions, route.from, hops, input, output);
+    }
+    match send_octets(alloc, versions, route.from, hops, input, output) {
+        Ok(()) => Ok(()),
+        Err(fault) => Err(CommandError::Fault(fault)),
+    }
+}
+
+/// Sends a message of hexadecimal digits, and writes what arrives as such.
+fn send_digits<R: Read, W: Write>(
+    alloc: Global,
+    versions: &Versions<'_>,
+    from: Codec,
+    hops: &[Hop],
+    input: &mut R,
+    output: &mut W,
+) -> Result<(), CommandError>
+    requires some { hops.now ≢ [] }
+    requires newer { IsNewer versions.now }
+{
+    let text = read_all(alloc, input)?;
+    let message = octets_of(alloc, text.as_slice())?;
+    let answer = sent(alloc, versions, from, hops, message.as_slice())?;
+    let line = line_of(alloc, answer.as_slice())?;
+    write_all(line.as_slice(), output)?;
+    Ok(())
+}
+
+/// Sends a message of octets. Nothing is written before it has arrived.
+fn send_octets<R: Read, W: Write>(
+    alloc: Global,
+    versions: &Versions<'_>,
+    from: Codec,
+    hops: &[Hop],
+    input: &mut R,
+    output: &mut W,
+) -> Result<(), Fault>
+    requires some { hops.now ≢ [] }
+    requires newer { IsNewer versions.now }
+    ensures { MatchResult result
+        (λ _. DoesRouteAs (older_of versions.now 128) (newer_of versions.now 128) from hops.now
+        (R.remaining input.old) (R.remaining input.new) (W.contents output.old) (W.contents output.new))
+        (StopsRouteAs (older_of versions.now 128) (newer_of versions.now 128) from hops.now
+        (R.remaining input.old) (R.remaining input.new) (W.contents output.old) (W.contents output.new)) }
+{
+    let message = read_all(alloc, input)?;
+    let answer = sent(alloc, versions, from, hops, message.as_slice())?;
+    write_all(answer.as_slice(), output)
+}
+
+/// What arrives of a message.
+fn sent(
+    alloc: Global,
+    versions: &Versions<'_>,
+    from: Codec,
+    hops: &[Hop],
+    message: &[u8],
+) -> Result<Vec<u8>, Fault>
+    requires some { hops.now ≢ [] }
+    requires newer { IsNewer versions.now }
+    ensures { MatchResult result
+        (λ v. ComesAs (older_of versions.now 128) (newer_of versions.now 128) from hops.now message.now
+        (arrived v.items))
+        (IsTurnedBackAs (older_of versions.now 128) (newer_of versions.now 128) from hops.now message.now) }
+{
+    let octets = route_by(alloc, versions, hops, from, message)?;
+    Ok(octets)
+}

@@ -1,0 +1,9 @@
+//! What a command line with files of modules requests.
+#![tactic(auto, using(std::proofs::lemmas::Grind::common_steps))]
+
+mod grammar;
+mod order;
+mod words;
+
+pub use order::{Action, Extent, Form, Order, Route, Translation};
+pub use words::{names_modules, read_order};
