@@ -1,5 +1,5 @@
 -- What a check of a message does with its reader and its writer.
-use Rattle.std.specs.Prelude.{◌≡◌, ◌≢◌, ℕ, List, [], ◌∷◌, ◌++◌, Option, Some, None, codes, slice_get, take}
+use Rattle.std.specs.Prelude.{◌≡◌, ◌≢◌, ℕ, List, [], ◌∷◌, ◌++◌, Option, Some, None, codes, false, slice_get, take}
 use Rattle.std.specs.Io.KnownBytes.{Appends, Keeps}
 use Rattle.asn1_model.specs.Schema.{Schema}
 use Rattle.asn1_relay_command.specs.Runs.{BecomesAs, IsAllRead, IsRefusedAs, Known}
@@ -9,6 +9,7 @@ use Rattle.asn1_relay_core.specs.Recoding.{answered}
 use Rattle.asn1_relay_core.specs.declared.codec.Codec.{Codec}
 use Rattle.asn1_module_command.specs.declared.errors.CommandError.{CommandError}
 use Rattle.asn1_module_command.specs.declared.errors.CommandError.TheVariants as error
+use Rattle.asn1_module_order.specs.declared.order.Check.{Check}
 
 -- in its own rules a message becomes itself: it is the canonical encoding of its value
 abbrev pub IsCanonical : Schema → Codec → List ℕ → Type 0
@@ -51,7 +52,7 @@ StopsSaying s rules message held held' (error.Fault fault.WriteFailed) =
 StopsSaying s rules message held held' e = IsNotCanonical s rules message e × Keeps held held'
 
 -- everything was read, which is a canonical message, and that was said
-pub record HasChecked (s : Schema) (rules : Codec) (unread unread' held held' : Known) : Type 0 where
+pub record IsChecked (s : Schema) (rules : Codec) (unread unread' held held' : Known) : Type 0 where
   pub message : List ℕ
   pub read : IsAllRead unread unread' message
   pub said : IsSaid s rules message held held'
@@ -64,7 +65,16 @@ pub record StopsAfterAll (s : Schema) (rules : Codec) (unread unread' held held'
   pub stops : StopsSaying s rules message held held' e
 
 -- an error stops this: the reader failed or memory ran out, and nothing was said, or all was read
-abbrev pub StopsChecking : Schema → Codec → Known → Known → Known → Known → CommandError → Type 0
-StopsChecking s rules unread unread' held held' (error.Fault fault.ReadFailed) = Keeps held held'
-StopsChecking s rules unread unread' held held' (error.Fault fault.OutOfMemory) = Keeps held held'
-StopsChecking s rules unread unread' held held' e = StopsAfterAll s rules unread unread' held held' e
+abbrev pub IsNotChecked : Schema → Codec → Known → Known → Known → Known → CommandError → Type 0
+IsNotChecked s rules unread unread' held held' (error.Fault fault.ReadFailed) = Keeps held held'
+IsNotChecked s rules unread unread' held held' (error.Fault fault.OutOfMemory) = Keeps held held'
+IsNotChecked s rules unread unread' held held' e = StopsAfterAll s rules unread unread' held held' e
+
+-- what was requested is done; nothing is said of hexadecimal digits
+abbrev pub HasChecked : Check → Schema → Known → Known → Known → Known → Type 0
+HasChecked c s unread unread' held held' = c.is_hexadecimal ≡ false → IsChecked s c.rules unread unread' held held'
+
+-- an error stops this
+abbrev pub StopsChecking : Check → Schema → Known → Known → Known → Known → CommandError → Type 0
+StopsChecking c s unread unread' held held' e =
+    c.is_hexadecimal ≡ false → IsNotChecked s c.rules unread unread' held held' e

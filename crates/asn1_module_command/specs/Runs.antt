@@ -4,6 +4,8 @@ use Rattle.std.specs.Prelude.{◌≡◌, ℕ, List, Option, Some, None, IsSome, 
 use Rattle.asn1_model.specs.Lawful.{is_of}
 use Rattle.asn1_model.specs.Schema.{Schema}
 use Rattle.asn1_model.specs.Value.{Value}
+use Rattle.asn1_model.specs.Versions.{Extends}
+use Rattle.asn1_module_tables.specs.Errors.{IsOfVersions}
 use Rattle.asn1_notation_types.specs.declared.tables.Table.{Table}
 use Rattle.asn1_relay_command.specs.Runs.{DoesOnceAs, DoesRouteAs, DoesStreamAs, HasWritten, IsRunFaultAs, IsUntouched}
 use Rattle.asn1_relay_command.specs.Runs.{Known, StopsOnceAs, StopsRouteAs}
@@ -11,8 +13,6 @@ use Rattle.asn1_relay_command.specs.declared.fault.Fault.{Fault}
 use Rattle.asn1_relay_core.specs.Coding.{IsWritten, rules_of}
 use Rattle.asn1_relay_core.specs.declared.codec.Codec.{Codec}
 use Rattle.asn1_schema_laws.specs.Tables.{IsValue}
-use Rattle.asn1_table_routes.specs.Schemas.{IsNewer, newer_of, older_of}
-use Rattle.asn1_table_routes.specs.declared.versions.Versions.{Versions}
 use Rattle.asn1_table_nodes.specs.Meaning.{type_at}
 use Rattle.asn1_module_command.specs.Checks.{HasChecked, StopsChecking}
 use Rattle.asn1_module_command.specs.declared.errors.CommandError.{CommandError}
@@ -103,34 +103,31 @@ StopsTranslating t s unread unread' held held' e =
 
 -- ---- routes
 
--- everything was read and sent from hop to hop, with two versions of a type, and what arrived was written; nothing is
--- said of hexadecimal digits
-abbrev pub HasRouted : Route → Versions → Known → Known → Known → Known → Type 0
-HasRouted r v unread unread' held held' =
-    r.is_hexadecimal ≡ false →
-    DoesRouteAs (older_of v 128) (newer_of v 128) r.from r.hops.items unread unread' held held'
+-- the second type is a newer version of the first (X.680 52), and with these everything was read, sent from hop to hop,
+-- and what arrived was written; nothing is said of hexadecimal digits
+pub record HasRouted (r : Route) (old new : Schema) (unread unread' held held' : Known) : Type 0 where
+  pub newer : Extends old new
+  pub done : r.is_hexadecimal ≡ false → DoesRouteAs old new r.from r.hops.items unread unread' held held'
 
 -- an error stops this, which names such a fault
-pub record StopsBetween (r : Route) (v : Versions) (unread unread' held held' : Known) (e : CommandError) : Type 0 where
+pub record StopsBetween (r : Route) (old new : Schema) (unread unread' held held' : Known) (e : CommandError)
+    : Type 0 where
   pub fault : Fault
   pub names : fault_in e ≡ Some fault
-  pub stops : StopsRouteAs (older_of v 128) (newer_of v 128) r.from r.hops.items unread unread' held held' fault
+  pub stops : StopsRouteAs old new r.from r.hops.items unread unread' held held' fault
 
-abbrev pub StopsRouting : Route → Versions → Known → Known → Known → Known → CommandError → Type 0
-StopsRouting r v unread unread' held held' e =
-    r.is_hexadecimal ≡ false → StopsBetween r v unread unread' held held' e
+-- the second type is a newer version of the first, and an error stops this
+pub record StopsRouting (r : Route) (old new : Schema) (unread unread' held held' : Known) (e : CommandError)
+    : Type 0 where
+  pub newer : Extends old new
+  pub stops : r.is_hexadecimal ≡ false → StopsBetween r old new unread unread' held held' e
 
--- this holds of two types of tables, of which one is a newer version of the other (X.680 52)
-pub record OfVersions (P : Versions → Type 0) : Type 0 where
-  pub versions : Versions
-  pub newer : IsNewer versions
-  pub holds : P versions
-
--- nothing was read and nothing written, since there are no two such versions, or else such an error stops this
-abbrev pub StopsSending : Route → Known → Known → Known → Known → Stop → Type 0
-StopsSending r unread unread' held held' (stop.Module e) = IsUntouched unread unread' held held'
-StopsSending r unread unread' held held' (stop.Command e) =
-    OfVersions (λ v. StopsRouting r v unread unread' held held' e)
+-- nothing was read and nothing written, since the second type does not extend the first, or memory ran out while they
+-- were compared; or else an error stops what was requested
+abbrev pub StopsSending : Route → Schema → Schema → Known → Known → Known → Known → Stop → Type 0
+StopsSending r old new unread unread' held held' (stop.Module e) =
+    IsOfVersions e × IsUntouched unread unread' held held'
+StopsSending r old new unread unread' held held' (stop.Command e) = StopsRouting r old new unread unread' held held' e
 
 -- ---- orders
 
@@ -139,25 +136,29 @@ pub record OfType (P : Schema → Type 0) : Type 0 where
   pub table : Table
   pub holds : P (schema_in table)
 
--- what was requested of a type is done; nothing is said of a message in hexadecimal digits, and of a type that is
--- printed
+-- this holds of the types of two such tables
+pub record OfTypes (P : Schema → Schema → Type 0) : Type 0 where
+  pub older : Table
+  pub newer : Table
+  pub holds : P (schema_in older) (schema_in newer)
+
+-- what was requested of a type is done; nothing is said of a type that is printed
 abbrev pub IsDone : Action → Known → Known → Known → Known → Type 0
 IsDone (action.Translate t) unread unread' held held' = OfType (λ s. HasTranslated t s unread unread' held held')
-IsDone (action.Check rules is_hexadecimal) unread unread' held held' =
-    OfType (λ s. is_hexadecimal ≡ false → HasChecked s rules unread unread' held held')
-IsDone (action.Route r) unread unread' held held' = OfVersions (λ v. HasRouted r v unread unread' held held')
+IsDone (action.Check c) unread unread' held held' = OfType (λ s. HasChecked c s unread unread' held held')
+IsDone (action.Route r) unread unread' held held' = OfTypes (λ old new. HasRouted r old new unread unread' held held')
 IsDone action.Print unread unread' held held' = Unit {0}
 
 -- an error stops this
 abbrev pub IsStopped : Action → Known → Known → Known → Known → CommandError → Type 0
 IsStopped (action.Translate t) unread unread' held held' e =
     OfType (λ s. StopsTranslating t s unread unread' held held' e)
-IsStopped (action.Check rules is_hexadecimal) unread unread' held held' e =
-    OfType (λ s. is_hexadecimal ≡ false → StopsChecking s rules unread unread' held held' e)
-IsStopped (action.Route r) unread unread' held held' e = OfVersions (λ v. StopsRouting r v unread unread' held held' e)
+IsStopped (action.Check c) unread unread' held held' e = OfType (λ s. StopsChecking c s unread unread' held held' e)
+IsStopped (action.Route r) unread unread' held held' e =
+    OfTypes (λ old new. StopsRouting r old new unread unread' held held' e)
 IsStopped action.Print unread unread' held held' e = Unit {0}
 
--- status 0: what was requested of the type is done, for some table or tables; which ones is not said
+-- status 0: what was requested of the type is done, for some table or tables; which ones is not said here
 abbrev pub HasDone : Order → Known → Known → Known → Known → Type 0
 HasDone o unread unread' held held' = IsSome o.type_name → IsDone o.action unread unread' held held'
 

@@ -11,6 +11,8 @@ mod routing;
 mod translating;
 mod values;
 
+pub use checking::check_message;
 pub use errors::{CommandError, Place, Stop};
 pub use program::{module_command, obey};
+pub use routing::send;
 pub use translating::translate;

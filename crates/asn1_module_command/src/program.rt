@@ -1,24 +1,21 @@
 //! The command over modules.
-ghost use Rattle.std.specs.Prelude.{◌≡◌, ◌≤◌, MatchResult, false};
+ghost use Rattle.std.specs.Prelude.{◌≡◌, ◌≢◌, ◌≤◌, [], MatchResult};
 ghost use Rattle.asn1_relay_command.specs.Runs.{IsUntouched};
-ghost use Rattle.asn1_module_command.specs.Checks.{HasChecked, IsSaid, StopsChecking, StopsSaying};
-ghost use Rattle.asn1_module_command.specs.Runs.{HasDone, HasFailed, HasTranslated, OfType, StopsAt, StopsTranslating};
-ghost use Rattle.asn1_module_command.specs.Runs.{schema_in};
+ghost use Rattle.asn1_module_command.specs.Checks.{HasChecked, StopsChecking};
+ghost use Rattle.asn1_module_command.specs.Runs.{HasDone, HasFailed, HasRouted, HasTranslated, OfType, OfTypes, StopsAt};
+ghost use Rattle.asn1_module_command.specs.Runs.{StopsSending, StopsTranslating};
 ghost use Rattle.asn1_module_order.specs.Orders.{CanBeDone, IsBounded};
 
-use crate::checking::check_canonical;
+use crate::checking::check_message;
 use crate::errors::{CommandError, Stop};
-use crate::hexadecimal::octets_of;
-use crate::routing::send_between;
+use crate::routing::send;
 use crate::translating::translate;
-use crate::values::Typed;
-use asn1_module_order::{Action, Order, Translation, read_order};
+use asn1_module_order::{Action, Check, Order, Route, Translation, read_order};
 use asn1_module_tables::{Source, older_table, read_files, table_named, write_module_error};
 use asn1_notation_printing::{list_types, print_type};
 use asn1_notation_syntax::Syntax;
 use asn1_notation_types::Table;
-use asn1_relay_command::{Fault, read_all, report, write_all};
-use asn1_relay_core::Codec;
+use asn1_relay_command::{Fault, report, write_all};
 use clap::error::ErrorKind as ParseErrorKind;
 use std::alloc::Global;
 use std::convert::AsStr;
@@ -188,23 +185,19 @@ fn act<R: Read, W: Write>(
         (R.remaining input.old) (R.remaining input.new) (W.contents output.old) (W.contents output.new)) }
 {
     let count = order.modules.len().min(files.len());
-    let (modules, older) = files.split_at(count);
-    let table = table_named(alloc, modules, name, order.options)?;
+    let table = table_named(alloc, &files[..count], name, order.options)?;
     match &order.action {
         Action::Translate(translation) => {
             translate_as(alloc, &table, *translation, input, output)?;
             Ok(())
         }
-        Action::Check {
-            rules,
-            is_hexadecimal,
-        } => {
-            check_as(alloc, &table, *rules, *is_hexadecimal, input, output)?;
+        Action::Check(check) => {
+            check_as(alloc, &table, *check, input, output)?;
             Ok(())
         }
         Action::Route(route) => {
-            let older = older_table(alloc, older, count, name, order.options)?;
-            send_between(alloc, &older, &table, route, input, output)?;
+            let older = older_table(alloc, files, count, name, order.options)?;
+            send_as(alloc, &older, &table, route, input, output)?;
             Ok(())
         }
         Action::Print => {
@@ -236,58 +229,36 @@ fn translate_as<R: Read, W: Write>(
 fn check_as<R: Read, W: Write>(
     alloc: Global,
     table: &Table,
-    rules: Codec,
-    is_hexadecimal: bool,
+    check: Check,
     input: &mut R,
     output: &mut W,
 ) -> Result<(), CommandError>
     ensures { MatchResult result
-        (λ _. OfType (λ s. is_hexadecimal ≡ false → HasChecked s rules
+        (λ _. OfType (λ s. HasChecked check s
         (R.remaining input.old) (R.remaining input.new) (W.contents output.old) (W.contents output.new)))
-        (λ e. OfType (λ s. is_hexadecimal ≡ false → StopsChecking s rules
+        (λ e. OfType (λ s. StopsChecking check s
         (R.remaining input.old) (R.remaining input.new) (W.contents output.old) (W.contents output.new) e)) }
 {
-    check(Typed { alloc, table }, rules, is_hexadecimal, input, output)
+    check_message(alloc, table, check, input, output)
 }
 
-/// Says that a message, the whole input, is canonical.
-fn check<R: Read, W: Write>(
-    typed: Typed<'_>,
-    rules: Codec,
-    is_hexadecimal: bool,
+/// Sends a message, the whole input, from hop to hop, where each hop knows the type of one of two tables.
+fn send_as<R: Read, W: Write>(
+    alloc: Global,
+    older: &Table,
+    newer: &Table,
+    route: &Route,
     input: &mut R,
     output: &mut W,
-) -> Result<(), CommandError>
+) -> Result<(), Stop>
+    requires { route.now.hops.items ≢ [] }
     ensures { MatchResult result
-        (λ _. is_hexadecimal ≡ false → HasChecked (schema_in typed.entry.table.now) rules
-        (R.remaining input.old) (R.remaining input.new) (W.contents output.old) (W.contents output.new))
-        (λ e. is_hexadecimal ≡ false → StopsChecking (schema_in typed.entry.table.now) rules
-        (R.remaining input.old) (R.remaining input.new) (W.contents output.old) (W.contents output.new) e) }
+        (λ _. OfTypes (λ old new. HasRouted route.now old new
+        (R.remaining input.old) (R.remaining input.new) (W.contents output.old) (W.contents output.new)))
+        (λ stop. OfTypes (λ old new. StopsSending route.now old new
+        (R.remaining input.old) (R.remaining input.new) (W.contents output.old) (W.contents output.new) stop)) }
 {
-    let message = read_all(typed.alloc, input)?;
-    if is_hexadecimal {
-        let octets = octets_of(typed.alloc, message.as_slice())?;
-        return say_canonical(typed, rules, octets.as_slice(), output);
-    }
-    say_canonical(typed, rules, message.as_slice(), output)
-}
-
-/// Says that a message is canonical.
-fn say_canonical<W: Write>(
-    typed: Typed<'_>,
-    rules: Codec,
-    message: &[u8],
-    output: &mut W,
-) -> Result<(), CommandError>
-    ensures { MatchResult result
-        (λ _. IsSaid (schema_in typed.entry.table.now) rules message.now
-        (W.contents output.old) (W.contents output.new))
-        (StopsSaying (schema_in typed.entry.table.now) rules message.now
-        (W.contents output.old) (W.contents output.new)) }
-{
-    check_canonical(typed, rules, message)?;
-    write_all(b"canonical\n", output)?;
-    Ok(())
+    send(alloc, older, newer, route, input, output)
 }
 
 /// Prints a type.

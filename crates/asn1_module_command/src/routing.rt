@@ -1,14 +1,15 @@
 //! A message passes from hop to hop, each with the older or the newer version of its type.
-ghost use Rattle.std.specs.Prelude.{◌≡◌, ◌≢◌, [], MatchResult, false};
+ghost use Rattle.std.specs.Prelude.{◌≡◌, ◌≢◌, [], IfErr, IfOk, MatchResult};
 ghost use Rattle.asn1_relay_command.specs.Runs.{ComesAs, DoesRouteAs, IsTurnedBackAs, StopsRouteAs};
 ghost use Rattle.asn1_relay_core.specs.Routing.{arrived};
 ghost use Rattle.asn1_table_routes.specs.Schemas.{IsNewer, newer_of, older_of};
-ghost use Rattle.asn1_module_command.specs.Runs.{HasRouted, OfVersions, StopsRouting, StopsSending};
+ghost use Rattle.asn1_module_command.specs.Runs.{HasRouted, StopsRouting, StopsSending, schema_in};
+ghost use Rattle.asn1_module_tables.specs.Errors.{IsOfVersions};
 
 use crate::errors::{CommandError, Stop};
 use crate::hexadecimal::{line_of, octets_of};
 use asn1_module_order::Route;
-use asn1_module_tables::not_extended;
+use asn1_module_tables::{ModuleError, not_extended};
 use asn1_notation_types::Table;
 use asn1_relay_command::{Fault, read_all, write_all};
 use asn1_relay_core::{Codec, Hop};
@@ -16,8 +17,13 @@ use asn1_table_routes::{Versions, route_by};
 use std::alloc::Global;
 use std::io::{Read, Write};
 
-/// Sends a message, the whole input, from hop to hop, if one type is a newer version of the other.
-pub(crate) fn send_between<R: Read, W: Write>(
+/// Sends a message, the whole input, from hop to hop, where each hop knows the type of one of two tables, with octets as
+/// hexadecimal digits if that was requested.
+///
+/// # Errors
+///
+/// `Module` if the newer type does not extend the older one (X.680 52), before anything is read.
+pub fn send<R: Read, W: Write>(
     alloc: Global,
     older: &Table,
     newer: &Table,
@@ -27,22 +33,40 @@ pub(crate) fn send_between<R: Read, W: Write>(
 ) -> Result<(), Stop>
     requires { route.now.hops.items ≢ [] }
     ensures { MatchResult result
-        (λ _. OfVersions (λ v. HasRouted route.now v
-        (R.remaining input.old) (R.remaining input.new) (W.contents output.old) (W.contents output.new)))
-        (StopsSending route.now
+        (λ _. HasRouted route.now (schema_in older.now) (schema_in newer.now)
+        (R.remaining input.old) (R.remaining input.new) (W.contents output.old) (W.contents output.new))
+        (StopsSending route.now (schema_in older.now) (schema_in newer.now)
         (R.remaining input.old) (R.remaining input.new) (W.contents output.old) (W.contents output.new)) }
 {
+    let versions = match versions_of(alloc, older, newer) {
+        Ok(versions) => versions,
+        Err(error) => return Err(Stop::Module(error)),
+    };
+    match send_between(alloc, &versions, route, input, output) {
+        Ok(()) => Ok(()),
+        Err(error) => Err(Stop::Command(error)),
+    }
+}
+
+/// The types of two tables, if the newer one extends the older one.
+fn versions_of<'a>(
+    alloc: Global,
+    older: &'a Table,
+    newer: &'a Table,
+) -> Result<Versions<'a>, ModuleError>
+    ensures is_newer { IfOk result IsNewer }
+    ensures older { IfOk result (λ v. older_of v 128 ≡ schema_in older.now) }
+    ensures newer { IfOk result (λ v. newer_of v 128 ≡ schema_in newer.now) }
+    ensures refused { IfErr result IsOfVersions }
+{
     match Versions::new(alloc, &older.types, older.place, &newer.types, newer.place) {
-        Ok(versions) => match send(alloc, &versions, route, input, output) {
-            Ok(()) => Ok(()),
-            Err(error) => Err(Stop::Command(error)),
-        },
-        Err(error) => Err(Stop::Module(not_extended(alloc, older, newer, error))),
+        Ok(versions) => Ok(versions),
+        Err(error) => Err(not_extended(alloc, older, newer, error)),
     }
 }
 
 /// Sends a message, the whole input, from hop to hop, with octets as hexadecimal digits if that was requested.
-fn send<R: Read, W: Write>(
+fn send_between<R: Read, W: Write>(
     alloc: Global,
     versions: &Versions<'_>,
     route: &Route,
@@ -52,9 +76,9 @@ fn send<R: Read, W: Write>(
     requires some { route.now.hops.items ≢ [] }
     requires newer { IsNewer versions.now }
     ensures { MatchResult result
-        (λ _. HasRouted route.now versions.now
+        (λ _. HasRouted route.now (older_of versions.now 128) (newer_of versions.now 128)
         (R.remaining input.old) (R.remaining input.new) (W.contents output.old) (W.contents output.new))
-        (StopsRouting route.now versions.now
+        (StopsRouting route.now (older_of versions.now 128) (newer_of versions.now 128)
         (R.remaining input.old) (R.remaining input.new) (W.contents output.old) (W.contents output.new)) }
 {
     let hops = route.hops.as_slice();

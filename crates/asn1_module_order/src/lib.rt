@@ -5,5 +5,5 @@ mod grammar;
 mod order;
 mod words;
 
-pub use order::{Action, Extent, Form, Order, Route, Translation};
+pub use order::{Action, Check, Extent, Form, Order, Route, Translation};
 pub use words::{names_modules, read_order};

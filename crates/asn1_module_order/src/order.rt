@@ -39,6 +39,15 @@ pub struct Translation {
     pub style: Style,
 }
 
+/// How it is checked that a message is canonical.
+#[derive(Clone, Copy, Debug, PartialEq, Eq)]
+pub struct Check {
+    /// The rules of the message.
+    pub rules: Codec,
+    /// Whether it is given as hexadecimal digits.
+    pub is_hexadecimal: bool,
+}
+
 /// How a message passes from hop to hop, of which each knows the older or the newer version of its type.
 #[derive(Debug, Drop, PartialEq, Eq)]
 pub struct Route {
@@ -56,12 +65,7 @@ pub enum Action {
     /// Its messages are translated.
     Translate(Translation),
     /// Whether a message is canonical is said.
-    Check {
-        /// The rules of the message.
-        rules: Codec,
-        /// Whether it is given as hexadecimal digits.
-        is_hexadecimal: bool,
-    },
+    Check(Check),
     /// A message is sent along a route, with an older and a newer version of the type.
     Route(Route),
     /// The type is printed in the notation of X.680.

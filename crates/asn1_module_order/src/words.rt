@@ -3,7 +3,7 @@ ghost use Rattle.std.specs.Prelude.{IfOk, IfSome};
 ghost use Rattle.asn1_module_order.specs.Orders.{CanBeDone, IsBounded};
 
 use crate::grammar::grammar;
-use crate::order::{Action, Extent, Form, Order, Route, Translation};
+use crate::order::{Action, Check, Extent, Form, Order, Route, Translation};
 use asn1_notation_types::{Additions, OpenTypes, TableOptions};
 use asn1_relay_command::{codec_named, hops_named};
 use asn1_relay_core::Hop;
@@ -80,10 +80,10 @@ fn translation_in(name: &str, options: &ArgMatches<'_>) -> Option<Translation>
 fn check_in(options: &ArgMatches<'_>) -> Option<Action>
     ensures { IfSome result CanBeDone }
 {
-    Some(Action::Check {
+    Some(Action::Check(Check {
         rules: codec_named(options.get_str("from")?)?,
         is_hexadecimal: options.get_flag("hex"),
-    })
+    }))
 }
 
 /// The route over these hops, if each option names something, and there is a hop.

@@ -1,4 +1,7 @@
 //! The files of modules, and the table of a type.
+ghost use Rattle.std.specs.Prelude.{IfErr, IfOk};
+ghost use Rattle.asn1_module_tables.specs.Errors.{AreOf, IsInFile, IsInText};
+
 use crate::errors::ModuleError;
 use asn1_notation_syntax::{Syntax, read_syntax};
 use asn1_notation_types::{Problem, Table, TableOptions, table_of};
@@ -18,7 +21,10 @@ pub struct Source {
 /// # Errors
 ///
 /// The first octet of a text at which something is wrong.
-pub fn read_files(alloc: Global, sources: &[Source]) -> Result<Vec<Syntax>, ModuleError> {
+pub fn read_files(alloc: Global, sources: &[Source]) -> Result<Vec<Syntax>, ModuleError>
+    ensures files { IfOk result (λ files. AreOf sources.now files.items) }
+    ensures text { IfErr result (IsInText sources.now) }
+{
     let mut files = Vec::new(alloc);
     for file in 0..sources.len() {
         match read_syntax(alloc, sources[file].text.as_slice()) {
@@ -45,7 +51,9 @@ pub fn table_named(
     files: &[Syntax],
     name: &str,
     options: TableOptions,
-) -> Result<Table, ModuleError> {
+) -> Result<Table, ModuleError>
+    ensures { IfErr result (IsInFile files.now) }
+{
     let (module, type_name) = match name.split_once('.') {
         Some((module, type_name)) => (Some(module), type_name),
         None => (None, name),
@@ -69,19 +77,23 @@ pub fn table_named(
     }
 }
 
-/// The table of the older version of a type. `count` files of the newer one come before these in a list of all.
+/// The table of the older version of a type, whose modules follow in a list of all files those of the newer version, of
+/// which there are `count`.
 ///
 /// # Errors
 ///
-/// As for `table_named`, with the index of the file in that list.
+/// As for `table_named`.
 pub fn older_table(
     alloc: Global,
     files: &[Syntax],
     count: usize,
     name: &str,
     options: TableOptions,
-) -> Result<Table, ModuleError> {
-    match table_named(alloc, files, name, options) {
+) -> Result<Table, ModuleError>
+    ensures { IfErr result (IsInFile files.now) }
+{
+    let count = count.min(files.len());
+    match table_named(alloc, &files[count..], name, options) {
         Ok(table) => Ok(table),
         Err(
             ModuleError::Text {
@@ -90,7 +102,7 @@ pub fn older_table(
                 problem,
             },
         ) => Err(ModuleError::Text {
-            file: file.saturating_add(count),
+            file: file + count,
             offset,
             problem,
         }),

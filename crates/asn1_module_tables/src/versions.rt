@@ -1,4 +1,7 @@
 //! Why a type is no newer version of another, with the places in both at which they differ.
+ghost use Rattle.std.specs.Prelude.{◌≡◌};
+ghost use Rattle.asn1_module_tables.specs.Errors.{IsOfVersions};
+
 use crate::errors::ModuleError;
 use asn1_notation_types::Table;
 use asn1_schema_tags::Chosen;
@@ -15,7 +18,10 @@ pub fn not_extended(
     older: &Table,
     newer: &Table,
     error: ExtendingError,
-) -> ModuleError {
+) -> ModuleError
+    ensures versions { IsOfVersions result }
+    ensures memory { (error ≡ ExtendingError.OutOfMemory) → (result ≡ ModuleError.OutOfMemory) }
+{
     match explained(alloc, older, newer, error) {
         Ok(problem) => ModuleError::NotExtended { problem },
         Err(_) => ModuleError::OutOfMemory,
