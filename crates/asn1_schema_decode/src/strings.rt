@@ -62,11 +62,14 @@ impl Decode for ObjectIdentifier {
     }
 }
 
-// The decoded octets. Only borrowed octets are copied.
+// The decoded octets. Few ones are copied into the value, of others only borrowed ones are copied.
 fn octet_string<O: ReadOctets>(alloc: Global, octets: O) -> Result<OctetString, DecodeError>
     ensures value { IfOk result (λ s. s ≡ O.items octets) }
     ensures refused { IfErr result (λ e. e ≡ DecodeError.OutOfMemory) }
 {
+    if let Some(few) = OctetString::from_few(octets.octets()) {
+        return Ok(few);
+    }
     let owned = octets.into_vec(alloc)?;
     let string = OctetString::from_vec(owned)?;
     Ok(string)

@@ -33,6 +33,19 @@ pub fn find_place(probe: &mut TagProbe<'_>, tag: Tag) -> Option<usize>
     None
 }
 
+/// As `find_place`, but tries the entry first whose index is the tag's number: the right one for tags from 0 on without
+/// gaps.
+pub fn find_numbered_place(places: &[TagPlace], tag: Tag) -> Option<usize>
+    requires { ascends places.now ≡ true }
+    ensures place { result ≡ looked_up places.now (tag_of tag) }
+    ensures plain { (ts : _) → is_table_of places.now ts ≡ true → result ≡ place_of ts (tag_of tag) }
+{
+    match places.get(tag.value as usize) {
+        Some(entry) if entry.tag.const_eq(&tag) => Some(entry.place),
+        _ => find_place(&mut TagProbe::new(places), tag),
+    }
+}
+
 /// Whether a table is ascending by tag and lists exactly the root tags and the added tags, each with its index in the
 /// concatenation of both.
 pub fn is_place_table(places: &[TagPlace], variants: &[Tag], extended: &[Tag]) -> bool

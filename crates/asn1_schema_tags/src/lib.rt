@@ -16,7 +16,7 @@ pub mod trees;
 pub use alternatives::Variants;
 pub use chosen::Chosen;
 pub use enumerated::Enumerated;
-pub use finding::{find_place, is_place_table};
+pub use finding::{find_numbered_place, find_place, is_place_table};
 pub use identifiers::Identifier;
 pub use item_tables::{ItemTables, are_distinct_items};
 pub use items::{EnumerationItems, TypeItems};

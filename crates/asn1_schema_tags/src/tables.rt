@@ -5,7 +5,7 @@ ghost use Rattle.asn1_schema_tags.specs.Places.{is_table_of};
 ghost use Rattle.asn1_schema_tags.specs.Tags.{tag_of};
 ghost use Rattle.asn1_schema_tags.specs.Trees.{place_of};
 
-use crate::{Chosen, Tag, TagPlace, TagProbe, find_place, is_place_table};
+use crate::{Chosen, Tag, TagPlace, find_numbered_place, is_place_table};
 use std::marker::Model;
 
 /// The description of a CHOICE for a codec: the tags of its root alternatives, whether there is an extension marker,
@@ -104,7 +104,7 @@ impl<'a> TagTables<'a> {
     pub fn find(&self, tag: Tag) -> Option<usize>
         ensures { result ≡ place_of (self.now.roots ++ self.now.additions) (tag_of tag) }
     {
-        find_place(&mut TagProbe::new(self.places), tag)
+        find_numbered_place(self.places, tag)
     }
 
     /// The alternative of a tag: a root alternative, or an added one if there is an extension marker.

@@ -42,13 +42,29 @@ fn is_empty() -> bool {
 fn strings_are_made(rt: HostRuntime) {
     assert!(rt; is_made_of_a_vector(rt.alloc()) == Ok(true));
     assert!(rt; is_whole(&lent()) == Ok(true) && is_empty());
+    assert!(rt; is_kept_in_place(&[0x61; 32]) && OctetString::from_few(&[0x61; 33]).is_none());
+    assert!(rt; is_whole_in_copies(rt.alloc(), &[0x61; 33]) == Ok(true));
+}
+
+/// Whether a string of these octets allocates nothing.
+fn is_kept_in_place(octets: &[u8]) -> bool {
+    OctetString::from_few(octets).is_some_and(|string| has(&string, octets))
+}
+
+/// Whether a string of these octets, a copy of it, and the vector and the bytes of these have them.
+fn is_whole_in_copies(alloc: Global, octets: &[u8]) -> Result<bool, AllocError> {
+    let value = OctetString::from_slice(alloc, octets)?;
+    let is_whole = has(&value, octets);
+    let bytes = value.clone()?.into_bytes(alloc)?;
+    let vector = value.into_vec(alloc)?;
+    Ok(is_whole && bytes.as_slice() == octets && has(&vector, octets))
 }
 
 /// Whether bytes are copied and converted to a string, and this to bytes.
 fn are_bytes(alloc: Global) -> Result<bool, AllocError> {
     let value = OctetString::from(Bytes::copy_from_slice(alloc, &OCTETS)?);
     let is_same = has(&value, &OCTETS);
-    Ok(is_same && Bytes::from(value).as_slice() == OCTETS.as_slice())
+    Ok(is_same && value.into_bytes(alloc)?.as_slice() == OCTETS.as_slice())
 }
 
 /// Whether strings of these octets are in this order.
@@ -156,7 +172,7 @@ fn strings_of_as_many_octets(rt: HostRuntime) {
     assert!(rt; gives_three(Three::new(OCTETS)) == Ok(true));
     assert!(rt; are_zeros_at_first() && is_written(&mut Three::new([1, 2, 3])));
     let value = OctetString::from_static(&[0x61, 0x00]);
-    assert!(rt; is_shown(alloc, &value, "OctetString { octets: b\"a\\0\" }"));
+    assert!(rt; is_shown(alloc, &value, "OctetString([97, 0])"));
 }
 
 /// Whether an octet string of an array is complete.
@@ -178,8 +194,8 @@ fn is_copied_of_a_clone(alloc: Global, value: &OctetString) -> Result<bool, Allo
 }
 
 /// Whether a string is unchanged after conversion to bytes and back.
-fn is_same_through_bytes(value: &OctetString) -> Result<bool, AllocError> {
-    let octets = Bytes::try_from(value)?;
+fn is_same_through_bytes(alloc: Global, value: &OctetString) -> Result<bool, AllocError> {
+    let octets = value.clone()?.into_bytes(alloc)?;
     Ok(OctetString::try_from(&octets)? == *value)
 }
 
@@ -207,7 +223,7 @@ fn copies(rt: &impl Abort, alloc: Global) -> bool {
     let value = of_slice(alloc, &mut granted);
     granted &= is_granted(rt, is_listed(alloc, &value));
     granted &= is_granted(rt, is_copied_of_a_clone(alloc, &value));
-    granted &= is_granted(rt, is_same_through_bytes(&value));
+    granted &= is_granted(rt, is_same_through_bytes(alloc, &value));
     assert!(rt; has(&value, &OCTETS));
     granted & is_granted(rt, is_listed_of_three(alloc))
 }

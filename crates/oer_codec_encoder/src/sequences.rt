@@ -23,6 +23,14 @@ pub(crate) fn push_zeros(octets: &mut Vec<u8>, count: usize) -> Result<(), Encod
         (λ e. e ≡ EncodeError.OutOfMemory) }
     ensures kept { OnErr result (octets.new.items ≡ octets.old.items) }
 {
+    // Almost every preamble is one octet or none.
+    if count == 0 {
+        return Ok(());
+    }
+    if count == 1 {
+        octets.push(0)?;
+        return Ok(());
+    }
     let Some(len) = octets.len().checked_add(count) else {
         return Err(EncodeError::OutOfMemory);
     };
