@@ -142,6 +142,12 @@ pub record OfTypes (P : Schema → Schema → Type 0) : Type 0 where
   pub newer : Table
   pub holds : P (schema_in older) (schema_in newer)
 
+-- nothing was read and nothing written, or an error stops a route, with the types of two such tables
+abbrev pub StopsOnRoute : Route → Known → Known → Known → Known → Stop → Type 0
+StopsOnRoute r unread unread' held held' (stop.Module e) = IsUntouched unread unread' held held'
+StopsOnRoute r unread unread' held held' (stop.Command e) =
+    OfTypes (λ old new. StopsRouting r old new unread unread' held held' e)
+
 -- what was requested of a type is done; nothing is said of a type that is printed
 abbrev pub IsDone : Action → Known → Known → Known → Known → Type 0
 IsDone (action.Translate t) unread unread' held held' = OfType (λ s. HasTranslated t s unread unread' held held')

@@ -3,7 +3,7 @@ ghost use Rattle.std.specs.Prelude.{◌≡◌, ◌≢◌, ◌≤◌, [], MatchRe
 ghost use Rattle.asn1_relay_command.specs.Runs.{IsUntouched};
 ghost use Rattle.asn1_module_command.specs.Checks.{HasChecked, StopsChecking};
 ghost use Rattle.asn1_module_command.specs.Runs.{HasDone, HasFailed, HasRouted, HasTranslated, OfType, OfTypes, StopsAt};
-ghost use Rattle.asn1_module_command.specs.Runs.{StopsSending, StopsTranslating};
+ghost use Rattle.asn1_module_command.specs.Runs.{StopsOnRoute, StopsTranslating};
 ghost use Rattle.asn1_module_order.specs.Orders.{CanBeDone, IsBounded};
 
 use crate::checking::check_message;
@@ -255,8 +255,8 @@ fn send_as<R: Read, W: Write>(
     ensures { MatchResult result
         (λ _. OfTypes (λ old new. HasRouted route.now old new
         (R.remaining input.old) (R.remaining input.new) (W.contents output.old) (W.contents output.new)))
-        (λ stop. OfTypes (λ old new. StopsSending route.now old new
-        (R.remaining input.old) (R.remaining input.new) (W.contents output.old) (W.contents output.new) stop)) }
+        (StopsOnRoute route.now
+        (R.remaining input.old) (R.remaining input.new) (W.contents output.old) (W.contents output.new)) }
 {
     send(alloc, older, newer, route, input, output)
 }

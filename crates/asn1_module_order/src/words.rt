@@ -5,7 +5,7 @@ ghost use Rattle.asn1_module_order.specs.Orders.{CanBeDone, IsBounded};
 use crate::grammar::grammar;
 use crate::order::{Action, Check, Extent, Form, Order, Route, Translation};
 use asn1_notation_types::{Additions, OpenTypes, TableOptions};
-use asn1_relay_command::{codec_named, hops_named};
+use asn1_relay_command::{codec_named, hops_in, limit_in};
 use asn1_relay_core::Hop;
 use asn1_table_json_writing::Style;
 use clap::error::ErrorKind;
@@ -52,10 +52,7 @@ fn extent_in(name: &str, options: &ArgMatches<'_>) -> Option<Extent>
     if name == "once" {
         return Some(Extent::Message);
     }
-    let limit = options.get_one::<u32>("limit")?;
-    if limit == 0 {
-        return None;
-    }
+    let limit = limit_in(options)?;
     Some(Extent::Stream { limit })
 }
 
@@ -114,7 +111,7 @@ fn action_in(
         "check" => Ok(check_in(options)),
         "types" => Ok(Some(Action::Print)),
         "route" => {
-            let hops = hops_named(alloc, options.get_strs("hop").unwrap_or(&[]))?;
+            let hops = hops_in(alloc, options)?;
             Ok(route_over(options, hops))
         }
         _ => match translation_in(name, options) {

@@ -8,5 +8,5 @@ mod program;
 
 pub use fault::{Fault, HopFault};
 pub use messages::{read_all, translate_message, translate_octets, translate_stream, write_all};
-pub use order::{Kind, Order, Pair, Translation, codec_named, hops_named, read_order};
+pub use order::{Kind, Order, Pair, Translation, codec_named, hops_in, limit_in, read_order};
 pub use program::{command, refuse_arguments, report, translate_all};

@@ -178,7 +178,7 @@ fn hop_named(name: &str) -> Option<Hop>
 }
 
 /// The hops with these names, in order, if each names one.
-pub fn hops_named(alloc: Global, names: &[&str]) -> Result<Option<Vec<Hop>>, AllocError>
+fn hops_named(alloc: Global, names: &[&str]) -> Result<Option<Vec<Hop>>, AllocError>
     ensures { IfOk result (λ hops. option_map (λ v. v.items) hops ≡ hops_by_names (map (λ s. s.now) names.now)) }
 {
     let mut hops = Vec::new(alloc);
@@ -313,7 +313,7 @@ fn translation_in(options: &ArgMatches<'_>) -> Option<Translation>
 }
 
 /// The limit that the options request, if there is one.
-fn limit_in(options: &ArgMatches<'_>) -> Option<u32>
+pub fn limit_in(options: &ArgMatches<'_>) -> Option<u32>
     ensures limit { result ≡ option_and_then limit_by_text (one_text (found_of options.now) (codes "limit")) }
     ensures some { IfSome result (λ n. 1 ≤ n) }
 {
@@ -341,7 +341,7 @@ fn stream_in(options: &ArgMatches<'_>) -> Option<Order>
 }
 
 /// The hops that the options request, if each of them names one.
-fn hops_in(alloc: Global, options: &ArgMatches<'_>) -> Result<Option<Vec<Hop>>, AllocError>
+pub fn hops_in(alloc: Global, options: &ArgMatches<'_>) -> Result<Option<Vec<Hop>>, AllocError>
     ensures { IfOk result (λ hops. option_map (λ v. v.items) hops ≡ hops_in_rows (rows_of (found_of options.now))) }
 {
     match options.get_strs("hop") {
