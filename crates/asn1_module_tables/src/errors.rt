@@ -1,4 +1,7 @@
 //! Why there is no table.
+ghost use Rattle.std.specs.Prelude.{◌≡◌};
+ghost use Rattle.asn1_module_tables.specs.declared.errors.ModuleError.TheVariants.{OutOfMemory};
+
 use std::alloc::{AllocError, AllocFailed};
 
 /// Why there is no table of a type, or no pair of an older and a newer version.
@@ -28,12 +31,16 @@ pub enum ModuleError {
 }
 
 impl From<AllocError> for ModuleError {
+    ghost from_gives = { λ _ e. e ≡ OutOfMemory };
+
     fn from(_refused: AllocError) -> Self {
         ModuleError::OutOfMemory
     }
 }
 
 impl<T: Drop> From<AllocFailed<T>> for ModuleError {
+    ghost from_gives = { λ _ e. e ≡ OutOfMemory };
+
     fn from(_refused: AllocFailed<T>) -> Self {
         ModuleError::OutOfMemory
     }
