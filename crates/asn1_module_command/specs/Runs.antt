@@ -1,6 +1,6 @@
 -- What a run over a type of a table does with its reader and its writer, whose octets are those that the one will still
 -- return and the other holds, if they are known.
-use Rattle.std.specs.Prelude.{◌≡◌, ℕ, List, Option, Some, None, IsSome, false, true}
+use Rattle.std.specs.Prelude.{◌≡◌, ◌⊎◌, ℕ, List, Option, Some, None, IsSome, false, true}
 use Rattle.asn1_model.specs.Lawful.{is_of}
 use Rattle.asn1_model.specs.Schema.{Schema}
 use Rattle.asn1_model.specs.Value.{Value}
@@ -19,6 +19,7 @@ use Rattle.asn1_module_command.specs.declared.errors.CommandError.{CommandError}
 use Rattle.asn1_module_command.specs.declared.errors.CommandError.TheVariants as error
 use Rattle.asn1_module_command.specs.declared.errors.Stop.{Stop}
 use Rattle.asn1_module_command.specs.declared.errors.Stop.TheVariants as stop
+use Rattle.asn1_module_order.specs.Orders.{Request, request_of}
 use Rattle.asn1_module_order.specs.declared.order.Action.{Action}
 use Rattle.asn1_module_order.specs.declared.order.Action.TheVariants as action
 use Rattle.asn1_module_order.specs.declared.order.Extent.{Extent}
@@ -179,3 +180,22 @@ StopsAt o unread unread' held held' (stop.Command e) =
 pub record HasFailed (o : Order) (unread unread' held held' : Known) : Type 0 where
   pub reason : Stop
   pub stops : StopsAt o unread unread' held held' reason
+
+-- ---- command lines
+
+-- a command line requests something, of which this holds if it names no file of the input or the output
+pub record IsAsked (asked : Option Request) (P : Order → Type 0) : Type 0 where
+  pub order : Order
+  pub asks : asked ≡ Some (request_of order)
+  pub holds : order.input ≡ None → order.output ≡ None → P order
+
+-- status 1: nothing was read and nothing written, since memory ran out or a file was not read, or else what was
+-- requested has failed
+abbrev pub HasStopped : Option Request → Known → Known → Known → Known → Type 0
+HasStopped asked unread unread' held held' =
+    IsUntouched unread unread' held held' ⊎ IsAsked asked (λ o. HasFailed o unread unread' held held')
+
+-- status 2: the command line requests nothing
+pub record HasRefused (asked : Option Request) (unread unread' held held' : Known) : Type 0 where
+  pub bad : asked ≡ None
+  pub untouched : IsUntouched unread unread' held held'

@@ -1,10 +1,10 @@
 //! The command over modules.
-ghost use Rattle.std.specs.Prelude.{◌≡◌, ◌≢◌, ◌≤◌, [], MatchResult};
-ghost use Rattle.asn1_relay_command.specs.Runs.{IsUntouched};
+ghost use Rattle.std.specs.Prelude.{◌≡◌, ◌≢◌, ◌≤◌, None, [], MatchResult, map};
+ghost use Rattle.clap.specs.Words.{kind_of};
 ghost use Rattle.asn1_module_command.specs.Checks.{HasChecked, StopsChecking};
-ghost use Rattle.asn1_module_command.specs.Runs.{HasDone, HasFailed, HasRouted, HasTranslated, OfType, OfTypes, StopsAt};
-ghost use Rattle.asn1_module_command.specs.Runs.{StopsOnRoute, StopsTranslating};
-ghost use Rattle.asn1_module_order.specs.Orders.{CanBeDone, IsBounded};
+ghost use Rattle.asn1_module_command.specs.Runs.{HasDone, HasFailed, HasRefused, HasRouted, HasStopped, HasTranslated};
+ghost use Rattle.asn1_module_command.specs.Runs.{IsAsked, OfType, OfTypes, StopsAt, StopsOnRoute, StopsTranslating};
+ghost use Rattle.asn1_module_order.specs.Orders.{CanBeDone, IsBounded, asked_by};
 
 use crate::checking::check_message;
 use crate::errors::{CommandError, Stop};
@@ -31,7 +31,8 @@ use std::rt::Files;
 ///   out. What is wrong is written to `errors`.
 /// * 2: the command line is not valid. A text is written to `errors`.
 ///
-/// A file that the command line names is read in the place of `input`, or written in that of `output`.
+/// A file that the command line names is read in the place of `input`, or written in that of `output`; nothing is
+/// ensured then of what is done.
 pub fn module_command<F: Files + AllocGlobal, S: AsStr, R: Read, W: Write, E: Write>(
     rt: &F,
     words: &[S],
@@ -40,7 +41,11 @@ pub fn module_command<F: Files + AllocGlobal, S: AsStr, R: Read, W: Write, E: Wr
     errors: &mut E,
 ) -> u8
     ensures status { result ≤ 2 }
-    ensures bad { result ≡ 2 → IsUntouched
+    ensures done { result ≡ 0 → IsAsked (asked_by (map S.text words.now)) (λ o. HasDone o
+        (R.remaining input.old) (R.remaining input.new) (W.contents output.old) (W.contents output.new)) }
+    ensures failed { result ≡ 1 → HasStopped (asked_by (map S.text words.now))
+        (R.remaining input.old) (R.remaining input.new) (W.contents output.old) (W.contents output.new) }
+    ensures bad { result ≡ 2 → HasRefused (asked_by (map S.text words.now))
         (R.remaining input.old) (R.remaining input.new) (W.contents output.old) (W.contents output.new) }
 {
     let order = match read_order(rt.alloc(), words) {
@@ -64,7 +69,11 @@ fn obey_from<F: Files + AllocGlobal, R: Read, W: Write, E: Write>(
     errors: &mut E,
 ) -> u8
     requires { CanBeDone order.now.action }
-    ensures { result ≤ 1 }
+    ensures status { result ≤ 1 }
+    ensures done { result ≡ 0 → order.now.input ≡ None → order.now.output ≡ None → HasDone order.now
+        (R.remaining input.old) (R.remaining input.new) (W.contents output.old) (W.contents output.new) }
+    ensures failed { result ≡ 1 → order.now.input ≡ None → order.now.output ≡ None → HasFailed order.now
+        (R.remaining input.old) (R.remaining input.new) (W.contents output.old) (W.contents output.new) }
 {
     let Some(name) = &order.input else {
         return obey_to(rt, order, sources, input, output, errors);
@@ -85,7 +94,11 @@ fn obey_to<F: Files + AllocGlobal, R: Read, W: Write, E: Write>(
     errors: &mut E,
 ) -> u8
     requires { CanBeDone order.now.action }
-    ensures { result ≤ 1 }
+    ensures status { result ≤ 1 }
+    ensures done { result ≡ 0 → order.now.output ≡ None → HasDone order.now
+        (R.remaining input.old) (R.remaining input.new) (W.contents output.old) (W.contents output.new) }
+    ensures failed { result ≡ 1 → order.now.output ≡ None → HasFailed order.now
+        (R.remaining input.old) (R.remaining input.new) (W.contents output.old) (W.contents output.new) }
 {
     let Some(name) = &order.output else {
         return obey(rt.alloc(), order, sources, input, output, errors);
@@ -316,7 +329,9 @@ fn refuse_file<E: Write>(name: &str, error: &io::Error, errors: &mut E) -> u8
 
 /// Reports what is wrong with a command line, and returns the exit status.
 fn refuse<E: Write>(error: &clap::Error, errors: &mut E) -> u8
-    ensures { result ≤ 2 }
+    ensures status { result ≤ 2 }
+    ensures memory { kind_of error.now ≡ ParseErrorKind.OutOfMemory → result ≡ 1 }
+    ensures mistake { kind_of error.now ≢ ParseErrorKind.OutOfMemory → result ≡ 2 }
 {
     if error.kind() == ParseErrorKind::OutOfMemory {
         return report(Fault::OutOfMemory, errors);

@@ -17,8 +17,8 @@ use asn1_table_routes::{Versions, route_by};
 use std::alloc::Global;
 use std::io::{Read, Write};
 
-/// Sends a message, the whole input, from hop to hop, where each hop knows the type of one of two tables, with octets as
-/// hexadecimal digits if that was requested.
+/// Sends a message, the whole input, from hop to hop, where each hop knows the type of one of two tables, with octets
+/// as hexadecimal digits if that was requested.
 ///
 /// # Errors
 ///

@@ -1,24 +1,43 @@
 //! The grammar of command lines with modules.
+ghost use Rattle.std.specs.Prelude.{◌≡◌, IfOk, codes, false};
+ghost use Rattle.clap.specs.Words.{app_of, rule_of};
+ghost use Rattle.asn1_relay_command.specs.Orders.{limit_rule, option_rule};
+ghost use Rattle.asn1_module_order.specs.Orders.{check_app, flag_rule, module_rules, optional_rule, program_app};
+ghost use Rattle.asn1_module_order.specs.Orders.{repeated_rule, route_app, stream_app, table_rules, translating_app};
+ghost use Rattle.asn1_module_order.specs.Orders.{type_rules, types_app, version_rules, with_rules};
+
 use clap::{Arg, ArgAction, Command, value_parser};
 use std::alloc::{AllocError, Global};
 
 /// An option with one value, which may be left out.
-fn optional<'a>(alloc: Global, name: &'a str, help: &'a str) -> Arg<'a> {
+fn optional<'a>(alloc: Global, name: &'a str, help: &'a str) -> Arg<'a>
+    ensures rule { rule_of result ≡ optional_rule name.entry.now }
+    ensures local { result.global ≡ false }
+{
     Arg::new(alloc, name).long(name).help(help)
 }
 
 /// A required option with one value.
-fn option<'a>(alloc: Global, name: &'a str, help: &'a str) -> Arg<'a> {
+fn option<'a>(alloc: Global, name: &'a str, help: &'a str) -> Arg<'a>
+    ensures rule { rule_of result ≡ option_rule name.entry.now }
+    ensures local { result.global ≡ false }
+{
     optional(alloc, name, help).required(true)
 }
 
 /// A required option that may be repeated.
-fn repeated<'a>(alloc: Global, name: &'a str, help: &'a str) -> Arg<'a> {
+fn repeated<'a>(alloc: Global, name: &'a str, help: &'a str) -> Arg<'a>
+    ensures rule { rule_of result ≡ repeated_rule name.entry.now }
+    ensures local { result.global ≡ false }
+{
     option(alloc, name, help).action(ArgAction::Append)
 }
 
 /// An option without a value.
-fn flag<'a>(alloc: Global, name: &'a str, help: &'a str) -> Arg<'a> {
+fn flag<'a>(alloc: Global, name: &'a str, help: &'a str) -> Arg<'a>
+    ensures rule { rule_of result ≡ flag_rule name.entry.now }
+    ensures local { result.global ≡ false }
+{
     Arg::new(alloc, name)
         .long(name)
         .action(ArgAction::SetTrue)
@@ -26,13 +45,17 @@ fn flag<'a>(alloc: Global, name: &'a str, help: &'a str) -> Arg<'a> {
 }
 
 /// The options that say which modules are read.
-fn with_modules<'a>(alloc: Global, command: Command<'a>) -> Result<Command<'a>, AllocError> {
+fn with_modules<'a>(alloc: Global, command: Command<'a>) -> Result<Command<'a>, AllocError>
+    ensures { IfOk result (λ c. app_of c ≡ with_rules (app_of command.entry) module_rules) }
+{
     let help = "a file of ASN.1 modules (X.680); may be repeated";
     command.arg(repeated(alloc, "module", help))
 }
 
 /// The options that say which modules are read for either version of a type.
-fn with_versions<'a>(alloc: Global, command: Command<'a>) -> Result<Command<'a>, AllocError> {
+fn with_versions<'a>(alloc: Global, command: Command<'a>) -> Result<Command<'a>, AllocError>
+    ensures { IfOk result (λ c. app_of c ≡ with_rules (app_of command.entry) version_rules) }
+{
     command
         .arg(repeated(
             alloc,
@@ -47,7 +70,9 @@ fn with_versions<'a>(alloc: Global, command: Command<'a>) -> Result<Command<'a>,
 }
 
 /// The options that say how modules are understood.
-fn with_options<'a>(alloc: Global, command: Command<'a>) -> Result<Command<'a>, AllocError> {
+fn with_options<'a>(alloc: Global, command: Command<'a>) -> Result<Command<'a>, AllocError>
+    ensures { IfOk result (λ c. app_of c ≡ with_rules (app_of command.entry) table_rules) }
+{
     command
         .arg(optional(
             alloc,
@@ -66,7 +91,9 @@ fn with_type<'a>(
     alloc: Global,
     command: Command<'a>,
     from: &'a str,
-) -> Result<Command<'a>, AllocError> {
+) -> Result<Command<'a>, AllocError>
+    ensures { IfOk result (λ c. app_of c ≡ with_rules (app_of command.entry) type_rules) }
+{
     with_options(alloc, command)?
         .arg(option(alloc, "type", "the type of a message: NAME, or MODULE.NAME"))?
         .arg(option(alloc, "from", from))?
@@ -83,7 +110,10 @@ fn with_type<'a>(
 }
 
 /// The option that says where the output goes.
-fn output_option<'a>(alloc: Global) -> Arg<'a> {
+fn output_option<'a>(alloc: Global) -> Arg<'a>
+    ensures rule { rule_of result ≡ optional_rule (codes "output") }
+    ensures local { result.global ≡ false }
+{
     optional(
         alloc,
         "output",
@@ -92,11 +122,9 @@ fn output_option<'a>(alloc: Global) -> Arg<'a> {
 }
 
 /// A command that translates.
-fn translating<'a>(
-    alloc: Global,
-    name: &'a str,
-    about: &'a str,
-) -> Result<Command<'a>, AllocError> {
+fn translating<'a>(alloc: Global, name: &'a str, about: &'a str) -> Result<Command<'a>, AllocError>
+    ensures { IfOk result (λ c. app_of c ≡ translating_app name.entry.now) }
+{
     let command = Command::new(alloc, name).about(about);
     let from = "what the input is: uper, aper, uper-strict, aper-strict, oer, coer or json";
     with_type(alloc, with_modules(alloc, command)?, from)?
@@ -113,7 +141,9 @@ fn translating<'a>(
 const RULES: &str = "the rules of the input: uper, aper, uper-strict, aper-strict, oer or coer";
 
 /// The command that says whether a message is canonical.
-fn checking<'a>(alloc: Global) -> Result<Command<'a>, AllocError> {
+fn checking<'a>(alloc: Global) -> Result<Command<'a>, AllocError>
+    ensures { IfOk result (λ c. app_of c ≡ check_app) }
+{
     let command = Command::new(alloc, "check").about(
         "Says whether a message, the whole input, is canonical, and if not, from which octet on",
     );
@@ -121,7 +151,9 @@ fn checking<'a>(alloc: Global) -> Result<Command<'a>, AllocError> {
 }
 
 /// The command that sends a message along a route.
-fn routing<'a>(alloc: Global) -> Result<Command<'a>, AllocError> {
+fn routing<'a>(alloc: Global) -> Result<Command<'a>, AllocError>
+    ensures { IfOk result (λ c. app_of c ≡ route_app) }
+{
     let command = Command::new(alloc, "route").about(
         "Sends one message, the whole input, from hop to hop; each knows the older or the newer version of its type",
     );
@@ -138,7 +170,9 @@ fn routing<'a>(alloc: Global) -> Result<Command<'a>, AllocError> {
 }
 
 /// The command that lists types, or prints one.
-fn listing<'a>(alloc: Global) -> Result<Command<'a>, AllocError> {
+fn listing<'a>(alloc: Global) -> Result<Command<'a>, AllocError>
+    ensures { IfOk result (λ c. app_of c ≡ types_app) }
+{
     let command = Command::new(alloc, "types").about(
         "Lists the types of ASN.1 modules, or prints one as it is understood",
     );
@@ -150,7 +184,10 @@ fn listing<'a>(alloc: Global) -> Result<Command<'a>, AllocError> {
 }
 
 /// The option of a stream: how long a message may be.
-fn limit_option<'a>(alloc: Global) -> Arg<'a> {
+fn limit_option<'a>(alloc: Global) -> Arg<'a>
+    ensures rule { rule_of result ≡ limit_rule }
+    ensures local { result.global ≡ false }
+{
     option(
         alloc,
         "limit",
@@ -160,7 +197,9 @@ fn limit_option<'a>(alloc: Global) -> Arg<'a> {
 }
 
 /// The grammar of a command line with modules.
-pub fn grammar<'a>(alloc: Global) -> Result<Command<'a>, AllocError> {
+pub fn grammar<'a>(alloc: Global) -> Result<Command<'a>, AllocError>
+    ensures { IfOk result (λ g. app_of g ≡ program_app) }
+{
     let once = translating(
         alloc,
         "once",

@@ -1,5 +1,5 @@
 -- What errors of modules name.
-use Rattle.std.specs.Prelude.{◌≡◌, ◌≤◌, ℕ, List, length, IsSomeAnd, map, slice_get}
+use Rattle.std.specs.Prelude.{◌≡◌, ◌≤◌, List, length, IsSomeAnd, map, slice_get}
 use Rattle.asn1_notation_tree.specs.declared.tree.Syntax.{Syntax}
 use Rattle.asn1_module_tables.specs.declared.errors.ModuleError.{ModuleError}
 use Rattle.asn1_module_tables.specs.declared.errors.ModuleError.TheVariants as error

@@ -5,7 +5,7 @@ ghost use Rattle.asn1_module_tables.specs.Errors.{IsOfVersions};
 use crate::errors::ModuleError;
 use asn1_notation_types::Table;
 use asn1_schema_tags::Chosen;
-use asn1_table_extending::ExtendingError;
+use asn1_table_extending::{Difference, ExtendingError};
 use asn1_table_names::{Names, Part, is_group};
 use asn1_table_paths::{Step, push_step};
 use asn1_table_tape::{elements_at, lists_at};
@@ -22,29 +22,29 @@ pub fn not_extended(
     ensures versions { IsOfVersions result }
     ensures memory { (error ≡ ExtendingError.OutOfMemory) → (result ≡ ModuleError.OutOfMemory) }
 {
-    match explained(alloc, older, newer, error) {
-        Ok(problem) => ModuleError::NotExtended { problem },
-        Err(_) => ModuleError::OutOfMemory,
-    }
-}
-
-/// Which two types on the way differ, and how.
-fn explained(
-    alloc: Global,
-    older: &Table,
-    newer: &Table,
-    error: ExtendingError,
-) -> Result<String, AllocError> {
     let ExtendingError::NotExtended {
         newer: new_place,
         older: old_place,
         difference,
     } = error
     else {
-        return Err(AllocError);
+        return ModuleError::OutOfMemory;
     };
-    let new_path = path_to(alloc, newer, new_place)?;
-    let old_path = path_to(alloc, older, old_place)?;
+    match explained(alloc, (older, old_place), (newer, new_place), difference) {
+        Ok(problem) => ModuleError::NotExtended { problem },
+        Err(_) => ModuleError::OutOfMemory,
+    }
+}
+
+/// Which two types of tables, at these indices, differ, and how.
+fn explained(
+    alloc: Global,
+    older: (&Table, usize),
+    newer: (&Table, usize),
+    difference: Difference,
+) -> Result<String, AllocError> {
+    let new_path = path_to(alloc, newer.0, newer.1)?;
+    let old_path = path_to(alloc, older.0, older.1)?;
     format!(in alloc; "{new_path} does not extend the older {old_path}: {difference}")
 }
 

@@ -1,0 +1,9 @@
+use Rattle.std.proofs.Common.{◌≡◌, ◌∙◌, ap, ap₂}
+use Rattle.std.proofs.lemmas.Result.{IfOk-weaker}
+use Rattle.clap.specs.Words.{app_of, with_rule}
+use Rattle.asn1_module_order.proofs.grammar.with_options.Goals as goal
+
+pub returns : goal.returns
+returns c =
+    let first : app_of c.in_ok-arg.field-0 ≡ _ = c.in_ok-arg.ensures.shape c.optional.ensures.local ∙ ap (with_rule (app_of c.args.command)) c.optional.ensures.rule in
+    IfOk-weaker c.arg-2.result _ _ (λ g h. h.shape c.flag.ensures.local ∙ ap₂ with_rule first c.flag.ensures.rule) c.arg-2.ensures
