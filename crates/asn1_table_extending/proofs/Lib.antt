@@ -1,3 +1,4 @@
 pub mod Staying
 pub mod Matched
 pub mod Refused
+pub mod Led

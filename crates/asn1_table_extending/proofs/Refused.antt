@@ -15,10 +15,8 @@ use Rattle.asn1_table_nodes.specs.declared.nodes.StringTable.{StringTable}
 use Rattle.asn1_table_nodes.specs.declared.nodes.TypeNode.{TypeNode}
 use Rattle.asn1_table_nodes.specs.declared.nodes.TypeNode.TheVariants as node
 use Rattle.asn1_table_extending.specs.Matching.{AlternativesMatch, BothMatch, ChoicesMatch, ComponentMatches, ComponentsMatch, ItemsMatch, NodesMatch, PresencesMatch, StringsMatch, TablesMatch}
-use Rattle.asn1_table_extending.specs.Differing.{AlternativeDiffers, AlternativesDiffer, AtSame, BothDiffer, ChoicesDiffer, ComponentDiffers, ComponentsDiffer, CountsDiffer, IsDue, IsRefused, IsRefusedAt, ItemsDiffer, PresencesDiffer, StringsDiffer, TablesDiffer, error_of}
+use Rattle.asn1_table_extending.specs.Differing.{AlternativeDiffers, AlternativesDiffer, AtSame, BothDiffer, ChoicesDiffer, ComponentDiffers, ComponentsDiffer, CountsDiffer, IsDue, IsRefusedAt, ItemsDiffer, PresencesDiffer, StringsDiffer, TablesDiffer, error_of}
 use Rattle.asn1_table_extending.specs.declared.differences.Difference.{Difference}
-use Rattle.asn1_table_extending.specs.declared.differences.ExtendingError.{ExtendingError}
-use Rattle.asn1_table_extending.specs.declared.differences.ExtendingError.TheVariants.{NotExtended, OutOfMemory}
 use Rattle.asn1_table_extending.specs.declared.differences.Fault.{Fault}
 use Rattle.asn1_table_extending.specs.declared.differences.Fault.TheVariants.{Differs, NoMemory}
 use Rattle.asn1_table_extending.specs.declared.pairs.Pair.{Pair}
@@ -182,10 +180,3 @@ pub refused_of : (ns ms : List TypeNode) (p : Pair) (f : Fault) → IsDue (λ d.
 refused_of ns ms p (Differs d) h =
     (refl, refl, record { unmatched = λ m. both_clash (λ i j. Unit {0}) d (slice_get ns p.older) (slice_get ms p.newer) h m; told = h })
 refused_of ns ms p NoMemory h = tt
-
-pub refused_passed : {T : Type 0} (ns ms : List TypeNode) (p : Pair) (e : ExtendingError) (r : Result T ExtendingError) → IsErrAnd r (λ y. y ≡ e) → IsRefusedAt ns ms p e → IfErr r (λ y. IsRefused ns ms y)
-refused_passed ns ms p e (Ok v) h m = absurd h
-refused_passed ns ms p e (Err y) h m = go y (subst (IsRefusedAt ns ms p) (sym h) m) where
-  go : (y : ExtendingError) → IsRefusedAt ns ms p y → IsRefused ns ms y
-  go (NotExtended newer older d) m = m.2
-  go OutOfMemory m = tt

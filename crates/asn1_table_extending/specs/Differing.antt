@@ -147,8 +147,3 @@ abbrev pub IsRefusedAt : List TypeNode → List TypeNode → Pair → ExtendingE
 IsRefusedAt ns ms p (NotExtended newer older d) =
     (older ≡ p.older) × (newer ≡ p.newer) × DoNotMatch d (slice_get ns older) (slice_get ms newer)
 IsRefusedAt ns ms p OutOfMemory = Unit {0}
-
--- A refusal is right: the types that it names do not match.
-abbrev pub IsRefused : List TypeNode → List TypeNode → ExtendingError → Type 0
-IsRefused ns ms (NotExtended newer older d) = DoNotMatch d (slice_get ns older) (slice_get ms newer)
-IsRefused ns ms OutOfMemory = Unit {0}

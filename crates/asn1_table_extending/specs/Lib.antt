@@ -1,2 +1,3 @@
 pub mod Matching
 pub mod Differing
+pub mod Leading

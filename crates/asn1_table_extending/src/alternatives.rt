@@ -2,6 +2,7 @@
 ghost use Rattle.std.specs.Prelude.{IfErr, OnOk};
 ghost use Rattle.asn1_model.specs.Versions.{Begins};
 ghost use Rattle.asn1_table_extending.specs.Differing.{AlternativesDiffer, ChoicesDiffer, IsDue};
+ghost use Rattle.asn1_table_extending.specs.Leading.{AddsOnly, AlternativeParts, ChoiceParts};
 ghost use Rattle.asn1_table_extending.specs.Matching.{AlternativesMatch, ChoicesMatch, IsListed};
 
 use crate::Difference;
@@ -21,6 +22,7 @@ pub fn check_choice(
     ensures matches { OnOk result (ChoicesMatch (IsListed pairs.new.items) older.now newer.now) }
     ensures refused { IfErr result (IsDue (λ d. ChoicesDiffer d older.now newer.now)) }
     ensures kept { OnOk result (Begins pairs.old.items pairs.new.items) }
+    ensures added { OnOk result (AddsOnly (ChoiceParts older.now newer.now) pairs.old.items pairs.new.items) }
 {
     check_alternatives(older.root.as_slice(), newer.root.as_slice(), false, pairs)?;
     if !is_same_marker(older.is_extensible, newer.is_extensible) {
@@ -46,6 +48,7 @@ fn check_alternatives(
     ensures matches { OnOk result (AlternativesMatch (IsListed pairs.new.items) may_have_more older.now newer.now) }
     ensures refused { IfErr result (IsDue (λ d. AlternativesDiffer d may_have_more older.now newer.now)) }
     ensures kept { OnOk result (Begins pairs.old.items pairs.new.items) }
+    ensures added { OnOk result (AddsOnly (AlternativeParts older.now newer.now) pairs.old.items pairs.new.items) }
 {
     check_count(
         older.len(),

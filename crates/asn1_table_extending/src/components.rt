@@ -3,6 +3,7 @@ ghost use Rattle.std.specs.Prelude.{◌≡◌, ◌↔◌, All, Contains, IfErr, 
 ghost use Rattle.asn1_model.specs.Versions.{Begins};
 ghost use Rattle.asn1_table_extending.specs.Differing.{ComponentDiffers, ComponentsDiffer, CountsDiffer, IsDue};
 ghost use Rattle.asn1_table_extending.specs.Differing.{PresencesDiffer, TablesDiffer};
+ghost use Rattle.asn1_table_extending.specs.Leading.{AddsOnly, ComponentParts, TableParts};
 ghost use Rattle.asn1_table_extending.specs.Matching.{ComponentMatches, ComponentsMatch, IsListed, PresencesMatch};
 ghost use Rattle.asn1_table_extending.specs.Matching.{TablesMatch};
 
@@ -23,6 +24,7 @@ pub fn check_table(
     ensures matches { OnOk result (TablesMatch (IsListed pairs.new.items) older.now newer.now) }
     ensures refused { IfErr result (IsDue (λ d. TablesDiffer d older.now newer.now)) }
     ensures kept { OnOk result (Begins pairs.old.items pairs.new.items) }
+    ensures added { OnOk result (AddsOnly (TableParts older.now newer.now) pairs.old.items pairs.new.items) }
 {
     check_components(older.root.as_slice(), newer.root.as_slice(), false, pairs)?;
     if !is_same_marker(older.is_extensible, newer.is_extensible) {
@@ -48,6 +50,7 @@ pub fn check_components(
     ensures matches { OnOk result (ComponentsMatch (IsListed pairs.new.items) may_have_more older.now newer.now) }
     ensures refused { IfErr result (IsDue (λ d. ComponentsDiffer d may_have_more older.now newer.now)) }
     ensures kept { OnOk result (Begins pairs.old.items pairs.new.items) }
+    ensures added { OnOk result (AddsOnly (ComponentParts older.now newer.now) pairs.old.items pairs.new.items) }
 {
     check_count(
         older.len(),

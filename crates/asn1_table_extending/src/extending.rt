@@ -3,8 +3,9 @@ ghost use Rattle.std.specs.Prelude.{◌≡◌, ℕ, IfErr, OnOk, slice_get};
 ghost use Rattle.asn1_model.specs.Versions.{Begins, Extends};
 ghost use Rattle.asn1_schema_constraints.specs.Terms.{size_of};
 ghost use Rattle.asn1_table_nodes.specs.Meaning.{type_at};
-ghost use Rattle.asn1_table_extending.specs.Differing.{BothDiffer, IsDue, IsRefused, IsRefusedAt, NodesDiffer};
+ghost use Rattle.asn1_table_extending.specs.Differing.{BothDiffer, IsDue, IsRefusedAt, NodesDiffer};
 ghost use Rattle.asn1_table_extending.specs.Differing.{ScalarsDiffer, SizesDiffer, error_of};
+ghost use Rattle.asn1_table_extending.specs.Leading.{AddsOnly, BothParts, IsRefused, NodeParts};
 ghost use Rattle.asn1_table_extending.specs.Matching.{IsListed, NodesMatch, PairMatches, ScalarsMatch};
 
 use crate::alternatives::check_choice;
@@ -37,7 +38,7 @@ pub fn check_extends(
 ) -> Result<(), ExtendingError>
     ensures extends { OnOk result ((n : ℕ) → Extends (type_at older.now.nodes.items n old_place)
         (type_at newer.now.nodes.items n new_place)) }
-    ensures refused { IfErr result (IsRefused older.now.nodes.items newer.now.nodes.items) }
+    ensures refused { IfErr result (IsRefused older.now.nodes.items newer.now.nodes.items old_place new_place) }
 {
     let first = Pair {
         older: old_place,
@@ -79,6 +80,8 @@ fn check_pair(
     ensures matches { OnOk result (PairMatches older.now.nodes.items newer.now.nodes.items pairs.new.items pair) }
     ensures refused { IfErr result (IsRefusedAt older.now.nodes.items newer.now.nodes.items pair) }
     ensures kept { OnOk result (Begins pairs.old.items pairs.new.items) }
+    ensures added { OnOk result (AddsOnly (BothParts (slice_get older.now.nodes.items pair.older)
+        (slice_get newer.now.nodes.items pair.newer)) pairs.old.items pairs.new.items) }
 {
     match check_places(older, newer, pair, pairs) {
         Ok(()) => Ok(()),
@@ -97,6 +100,8 @@ fn check_places(
     ensures refused { IfErr result (IsDue (λ d. BothDiffer d (slice_get older.now.nodes.items pair.older)
         (slice_get newer.now.nodes.items pair.newer))) }
     ensures kept { OnOk result (Begins pairs.old.items pairs.new.items) }
+    ensures added { OnOk result (AddsOnly (BothParts (slice_get older.now.nodes.items pair.older)
+        (slice_get newer.now.nodes.items pair.newer)) pairs.old.items pairs.new.items) }
 {
     match (older.node(pair.older), newer.node(pair.newer)) {
         (None, None) => Ok(()),
@@ -110,6 +115,7 @@ fn check_node(older: &TypeNode, newer: &TypeNode, pairs: &mut Vec<Pair>) -> Resu
     ensures matches { OnOk result (NodesMatch (IsListed pairs.new.items) older.now newer.now) }
     ensures refused { IfErr result (IsDue (λ d. NodesDiffer d older.now newer.now)) }
     ensures kept { OnOk result (Begins pairs.old.items pairs.new.items) }
+    ensures added { OnOk result (AddsOnly (NodeParts older.now newer.now) pairs.old.items pairs.new.items) }
 {
     match (older, newer) {
         (TypeNode::SequenceOf(sizes, place), TypeNode::SequenceOf(others, other)) => {
@@ -143,6 +149,7 @@ fn check_list(
     ensures refused { IfErr result (IsDue (λ d. SizesDiffer d sizes others)) }
     ensures listed { OnOk result (IsListed pairs.new.items place other) }
     ensures kept { OnOk result (Begins pairs.old.items pairs.new.items) }
+    ensures added { OnOk result (AddsOnly (λ i j. (place ≡ i) × (other ≡ j)) pairs.old.items pairs.new.items) }
 {
     check_sizes(sizes, others)?;
     add_pair(

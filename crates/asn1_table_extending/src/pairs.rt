@@ -1,6 +1,7 @@
 //! The pairs of types that are compared.
-ghost use Rattle.std.specs.Prelude.{IsTrue, OnOk};
+ghost use Rattle.std.specs.Prelude.{◌≡◌, IsTrue, OnOk};
 ghost use Rattle.asn1_model.specs.Versions.{Begins};
+ghost use Rattle.asn1_table_extending.specs.Leading.{AddsOnly};
 ghost use Rattle.asn1_table_extending.specs.Matching.{IsListed};
 
 use std::alloc::AllocError;
@@ -18,6 +19,8 @@ pub struct Pair {
 pub fn add_pair(pairs: &mut Vec<Pair>, pair: Pair) -> Result<(), AllocError>
     ensures listed { OnOk result (IsListed pairs.new.items pair.older pair.newer) }
     ensures kept { OnOk result (Begins pairs.old.items pairs.new.items) }
+    ensures added { OnOk result (AddsOnly (λ i j. (pair.older ≡ i) × (pair.newer ≡ j)) pairs.old.items
+        pairs.new.items) }
 {
     if is_listed(pairs.as_slice(), pair) {
         return Ok(());

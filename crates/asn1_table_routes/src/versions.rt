@@ -1,6 +1,6 @@
 //! Two versions of a type, of a table each.
 ghost use Rattle.std.specs.Prelude.{◌≡◌, IfErr, IfOk};
-ghost use Rattle.asn1_table_extending.specs.Differing.{IsRefused};
+ghost use Rattle.asn1_table_extending.specs.Leading.{IsRefused};
 ghost use Rattle.asn1_table_routes.specs.Schemas.{IsNewer};
 
 use asn1_table_extending::{ExtendingError, check_extends};
@@ -25,7 +25,7 @@ impl<'a> Versions<'a> {
     ///
     /// # Errors
     ///
-    /// `NotExtended` with the places of two types that differ, or `OutOfMemory`.
+    /// `NotExtended` with the places of two types to which these lead and which differ, or `OutOfMemory`.
     pub fn new(
         alloc: Global,
         older: &'a Types,
@@ -38,7 +38,7 @@ impl<'a> Versions<'a> {
         ensures old_place { IfOk result (λ v. v.old_place ≡ old_place) }
         ensures newer { IfOk result (λ v. v.newer.now ≡ newer.now) }
         ensures new_place { IfOk result (λ v. v.new_place ≡ new_place) }
-        ensures refused { IfErr result (IsRefused older.now.nodes.items newer.now.nodes.items) }
+        ensures refused { IfErr result (IsRefused older.now.nodes.items newer.now.nodes.items old_place new_place) }
     {
         check_extends(alloc, newer, new_place, older, old_place)?;
         Ok(Versions {

@@ -1,19 +1,14 @@
 //! The tags of a CHOICE of a table.
-use crate::common::{Nodes, choice};
+use crate::common::{Node, nodes_of};
 use asn1_schema_tags::{Tag, TagTables};
-use asn1_table_types::{TypeNode, Types};
+use asn1_table_types::Types;
 use std::alloc::Global;
 
 /// An extensible CHOICE with added tags that are between the root ones and less than all of them.
-fn nodes(alloc: Global) -> Nodes {
-    Ok(Vec::from_array(
-        alloc,
-        [
-            TypeNode::Null,
-            TypeNode::Choice(choice(alloc, &[1, 5], true, &[3, 0])?),
-        ],
-    )?)
-}
+const NODES: [Node; 2] = [
+    Node::Null,
+    Node::Choice(&[(1, 0), (5, 0)], true, &[(3, 0), (0, 0)]),
+];
 
 /// Whether a context-specific tag has this index, if any.
 fn has(tables: &TagTables<'_>, number: u32, index: Option<usize>) -> bool {
@@ -48,18 +43,17 @@ fn has_tags(types: &Types) -> bool {
 }
 
 /// Whether a table of these types has the tags.
-fn has_tags_in(alloc: Global, nodes: Nodes) -> bool {
-    match nodes {
-        Ok(nodes) => match Types::new(alloc, nodes) {
-            Ok(types) => has_tags(&types),
-            Err(_) => false,
-        },
+fn has_tags_in(alloc: Global) -> bool {
+    let Ok(nodes) = nodes_of(alloc, &NODES) else {
+        return false;
+    };
+    match Types::new(alloc, nodes) {
+        Ok(types) => has_tags(&types),
         Err(_) => false,
     }
 }
 
 #[test]
 fn tags_of_a_choice(rt: HostRuntime) {
-    let alloc = rt.alloc();
-    assert!(rt; has_tags_in(alloc, nodes(alloc)));
+    assert!(rt; has_tags_in(rt.alloc()));
 }

@@ -24,7 +24,7 @@ use asn1_table_types::Types;
 use std::alloc::Global;
 
 /// For how many records there is room before the first one is kept.
-const FIRST_RECORDS: usize = 16;
+const FIRST_RECORDS: usize = 21;
 
 /// Reads the value of the type at this index of a table whose records are next, and puts the records of its normal
 /// form on the tape. An index outside the table is that of a type without values. After an error the decoder has

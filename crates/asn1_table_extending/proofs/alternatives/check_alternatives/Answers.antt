@@ -1,13 +1,19 @@
-use Rattle.std.proofs.Common.{inl, inr, refl, arith}
+use Rattle.std.proofs.Common.{◌≡◌, inl, inr, refl, arith}
 use Rattle.asn1_table_extending.proofs.Matched.{begins_itself, begins_more, alternatives_next, alternatives_end, listed_more}
+use Rattle.asn1_table_extending.proofs.Led.{adds_more}
 use Rattle.asn1_table_extending.proofs.Refused.{raised, raised_none, read_index, untrue}
 use Rattle.asn1_table_extending.specs.Differing.{AlternativeDiffers, AlternativesDiffer}
 use Rattle.asn1_table_extending.specs.declared.differences.Difference.TheVariants.{AlternativeTag}
+use Rattle.asn1_table_extending.specs.Leading.{AlternativeParts}
 use Rattle.asn1_table_extending.proofs.alternatives.check_alternatives.Goals as goal
 
 pub loop-index-preserved : goal.loop-index-preserved
 loop-index-preserved c = record {
   kept = begins_more c.args.pairs.now.items c.loop-index.pairs.items c.add_pair.new.pairs.items c.loop-index.invariant.kept c.in_ok-add_pair.ensures.kept;
+  added = adds_more (AlternativeParts c.args.older.now c.args.newer.now) _ (AlternativeParts c.args.older.now c.args.newer.now)
+      c.args.pairs.now.items c.loop-index.pairs.items c.add_pair.new.pairs.items c.loop-index.invariant.added c.in_ok-add_pair.ensures.added (λ i j h. h)
+      (λ i j h. read_index (λ x y. (x.place ≡ i) × (y.place ≡ j)) c.args.older.now c.args.newer.now c.loop-index.index _ _
+      c.loop-index-test.true (omega (arith, c.loop-index-test.true, c.in_ok-check_count.ensures.enough)) h);
   matched = λ qs b m. c.loop-index.invariant.matched qs (begins_more c.loop-index.pairs.items c.add_pair.new.pairs.items qs c.in_ok-add_pair.ensures.kept b)
       (alternatives_next qs c.args.may_have_more c.args.older.now c.args.newer.now c.loop-index.index _ _
       c.loop-index-test.true (omega (arith, c.loop-index-test.true, c.in_ok-check_count.ensures.enough))

@@ -1,5 +1,6 @@
 use Rattle.std.proofs.Common.{List, drop}
 use Rattle.asn1_model.specs.Versions.{Begins}
+use Rattle.asn1_table_extending.specs.Leading.{AddsOnly, AlternativeParts}
 use Rattle.asn1_table_extending.specs.Matching.{AlternativesMatch, IsListed}
 use Rattle.asn1_table_extending.specs.declared.pairs.Pair.{Pair}
 use Rattle.asn1_table_extending.proofs.alternatives.check_alternatives.Given as goal
@@ -8,6 +9,7 @@ use Rattle.asn1_table_extending.proofs.alternatives.check_alternatives.Given as 
 abbrev pub invariant-loop-index : goal.invariant-loop-index
 invariant-loop-index l = record {
   kept : Begins l.fn.pairs.items l.pairs.items;
+  added : AddsOnly (AlternativeParts l.older l.newer) l.fn.pairs.items l.pairs.items;
   matched : (qs : List Pair) → Begins l.pairs.items qs → AlternativesMatch (IsListed qs) l.may_have_more (drop l.index l.older) (drop l.index l.newer)
       → AlternativesMatch (IsListed qs) l.may_have_more l.older l.newer;
 }

@@ -1,7 +1,9 @@
 use Rattle.std.proofs.Common.{false, inl, inr, refl}
 use Rattle.asn1_table_extending.proofs.Matched.{alternatives_at, alternatives_listed}
+use Rattle.asn1_table_extending.proofs.Led.{adds_more, alternative_parts_at}
 use Rattle.asn1_table_extending.proofs.Refused.{alternatives_differ_at, raised_more, untrue}
 use Rattle.asn1_table_extending.specs.Differing.{AlternativesDiffer, ChoicesDiffer}
+use Rattle.asn1_table_extending.specs.Leading.{AlternativeParts, ChoiceParts}
 use Rattle.asn1_table_extending.proofs.alternatives.check_choice.Goals as goal
 
 pub returns-clause-matches : goal.returns-clause-matches
@@ -29,3 +31,10 @@ returns-in_err-check_alternatives-2-clause-refused c =
 
 pub returns-then-not-is_same_marker-clause-refused : goal.returns-then-not-is_same_marker-clause-refused
 returns-then-not-is_same_marker-clause-refused c = inr (inl (refl, λ e. untrue _ c.is_same_marker.ensures.1 c.if-not-is_same_marker.true e))
+
+pub returns-clause-added : goal.returns-clause-added
+returns-clause-added c =
+    adds_more (AlternativeParts c.as_slice.result.now c.as_slice-2.result.now) (AlternativeParts c.as_slice-3.result.now c.as_slice-4.result.now) (ChoiceParts c.args.older.now c.args.newer.now)
+    c.args.pairs.now.items c.check_alternatives.new.pairs.items c.check_alternatives-2.new.pairs.items c.in_ok-check_alternatives.ensures.added c.in_ok-check_alternatives-2.ensures.added
+    (λ i j h. inl (alternative_parts_at _ _ c.args.older.now.root.items c.args.newer.now.root.items i j c.as_slice.ensures.value c.as_slice-2.ensures.value h))
+    (λ i j h. inr (alternative_parts_at _ _ c.args.older.now.additions.items c.args.newer.now.additions.items i j c.as_slice-3.ensures.value c.as_slice-4.ensures.value h))
