@@ -1,6 +1,7 @@
 //! The expected outcome of a message on a route, computed from its value: no hop reads what the hop before it wrote.
 use asn1_relay_core::{Codec, DecodeError, Extends, RouteFault, RouteFaultKind, Version, route};
 use asn1_relay_vectors_judging::routes::{Versions, Way};
+use asn1_relay_vectors_lines::line::LineError;
 use asn1_relay_vectors_lines::route::Arrival;
 use asn1_schema_decode::Decode;
 use asn1_schema_encode::Encode;
@@ -35,7 +36,7 @@ pub struct Known<Old, New>(pub PhantomData<(Old, New)>);
 
 impl<Old: Encode + Decode, New: Encode + Decode + Extends<Old> + Grown<Old>> Versions
     for Known<Old, New> {
-    fn send(&self, alloc: Global, way: Way<'_>, octets: &[u8]) -> Option<Arrival> {
+    fn send(&self, alloc: Global, way: Way<'_>, octets: &[u8]) -> Result<Arrival, LineError> {
         send_between::<Old, New>(alloc, way, octets)
     }
 
@@ -49,7 +50,7 @@ impl<Old: Encode + Decode, New: Encode + Decode + Extends<Old> + Grown<Old>> Ver
 pub struct Sent<Old, New>(pub PhantomData<(Old, New)>);
 
 impl<Old: Encode + Decode, New: Encode + Decode + Extends<Old>> Versions for Sent<Old, New> {
-    fn send(&self, alloc: Global, way: Way<'_>, octets: &[u8]) -> Option<Arrival> {
+    fn send(&self, alloc: Global, way: Way<'_>, octets: &[u8]) -> Result<Arrival, LineError> {
         send_between::<Old, New>(alloc, way, octets)
     }
 
@@ -63,11 +64,11 @@ fn send_between<Old: Encode + Decode, New: Encode + Decode + Extends<Old>>(
     alloc: Global,
     way: Way<'_>,
     octets: &[u8],
-) -> Option<Arrival> {
+) -> Result<Arrival, LineError> {
     if way.hops.is_empty() {
-        return None;
+        return Err(LineError::Form);
     }
-    Some(route::<Old, New>(alloc, way.hops, way.from, octets))
+    Ok(route::<Old, New>(alloc, way.hops, way.from, octets))
 }
 
 /// Whether decoders by these rules reject a component that is encoded at its default.

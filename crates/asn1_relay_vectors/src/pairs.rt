@@ -7,9 +7,8 @@ use asn1_relay_types::{
     OldColour, OldDefault, OldDefaultFields, OldFields,
 };
 use asn1_relay_vectors_judging::cuts::Inputs;
-use asn1_relay_vectors_judging::routes::{Claim, judge};
+use asn1_relay_vectors_judging::routes::{Claim, judge, judge_claim};
 use asn1_relay_vectors_lines::line::{LineError, Verdict};
-use asn1_relay_vectors_lines::route::Route;
 use asn1_relay_vectors_types::{
     Nested, NewBag, NewBracket, NewHolder, NewList, Newest, OldBag, OldBracket, OldGrown,
     OldHolder, OldList, OldVersioned, Versioned,
@@ -18,70 +17,59 @@ use asn1_schema_example::grown;
 use asn1_schema_wrapped::Implicit;
 use std::marker::PhantomData;
 
-/// Judges a line of routes, which begins with `route` or `routes`; none if it begins with another word.
-pub fn judge_routes(inputs: &mut Inputs, said: &str) -> Option<Verdict> {
-    match said.split_once(' ') {
-        Some(("route", text)) => Some(judge_one(inputs, text)),
-        Some(("routes", name)) => Some(judge_pair(inputs, name, &Claim::Every)),
-        _ => None,
-    }
-}
-
-/// Judges a line of one route.
-fn judge_one(inputs: &mut Inputs, text: &str) -> Verdict {
-    let (name, text) = text.split_once(' ').ok_or(LineError::Form)?;
-    let route = Route::read(inputs.alloc(), text)?;
-    judge_pair(inputs, name, &Claim::One(name, route))
-}
-
-/// Judges a line of two types, an older and a newer version.
+/// Judges a line of two Rust types, an older and a newer version, and tries its octets as of each when truncated.
 macro_rules! judge_types {
-    ($inputs:expr, $versions:ident, $old:ty, $new:ty, $claim:expr) => {
+    ($inputs:expr, $versions:ident, $old:ty, $new:ty, $name:expr, $claim:expr) => {
         judge(
             $inputs,
             &$versions::<$old, $new>(PhantomData),
             &Of::<$old>(PhantomData),
             &Of::<$new>(PhantomData),
+            $name,
             $claim,
         )
     };
 }
 
-/// Judges a line of the pair with this name.
+/// Judges a line of two Rust types whose octets are tried as of the tables of the types.
+macro_rules! judge_sent {
+    ($inputs:expr, $old:ty, $new:ty, $claim:expr) => {
+        judge_claim(
+            $inputs.alloc(),
+            &Sent::<$old, $new>(PhantomData),
+            $claim,
+        )
+    };
+}
+
+/// Judges a line of the pair of Rust types with this name.
 ///
 /// # Errors
 ///
-/// `NoPair` if there is no such pair, and those of `judge`.
-fn judge_pair(inputs: &mut Inputs, name: &str, claim: &Claim<'_>) -> Verdict {
+/// `NoType` if there is no such pair, and those of `judge`.
+pub fn judge_pair(inputs: &mut Inputs, name: &str, claim: &Claim) -> Verdict {
     match name {
-        "plain" => judge_types!(inputs, Known, Old, New, claim),
-        "default" => judge_types!(inputs, Known, OldDefault, NewDefault, claim),
-        "required" => judge_types!(inputs, Known, Old, NewRequired, claim),
-        "colour" => judge_types!(inputs, Known, OldColour, NewColour, claim),
-        _ => judge_grown(inputs, name, claim),
+        "plain" => judge_types!(inputs, Known, Old, New, name, claim),
+        "default" => judge_types!(inputs, Known, OldDefault, NewDefault, name, claim),
+        "required" => judge_types!(inputs, Known, Old, NewRequired, name, claim),
+        "colour" => judge_types!(inputs, Known, OldColour, NewColour, name, claim),
+        "group" => judge_types!(inputs, Sent, OldBracket, NewBracket, name, claim),
+        _ => judge_sent(inputs, name, claim),
     }
 }
 
-/// Judges a line of a pair without samples: with extended components, and with lists; or of a pair of the next group.
-fn judge_grown(inputs: &mut Inputs, name: &str, claim: &Claim<'_>) -> Verdict {
+/// Judges a line of a pair without samples, whose types have tables.
+fn judge_sent(inputs: &mut Inputs, name: &str, claim: &Claim) -> Verdict {
     match name {
-        "list" => judge_types!(inputs, Sent, OldList, NewList, claim),
-        "bag" => judge_types!(inputs, Sent, OldBag, NewBag, claim),
-        "within" => judge_types!(inputs, Sent, OldHolder, NewHolder, claim),
-        "group" => judge_types!(inputs, Sent, OldBracket, NewBracket, claim),
-        _ => judge_longer(inputs, name, claim),
-    }
-}
-
-/// Judges a line of a pair whose newer version has one more addition or alternative.
-fn judge_longer(inputs: &mut Inputs, name: &str, claim: &Claim<'_>) -> Verdict {
-    match name {
-        "nested" => judge_types!(inputs, Sent, Old, Nested, claim),
-        "choice" => judge_types!(inputs, Sent, OldVersioned, Versioned, claim),
-        "set" => judge_types!(inputs, Sent, OldGrown, grown::Grown, claim),
-        "later" => judge_types!(inputs, Sent, New, Newest, claim),
-        "leap" => judge_types!(inputs, Sent, Old, Newest, claim),
-        _ => Err(LineError::NoPair),
+        "list" => judge_sent!(inputs, OldList, NewList, claim),
+        "bag" => judge_sent!(inputs, OldBag, NewBag, claim),
+        "within" => judge_sent!(inputs, OldHolder, NewHolder, claim),
+        "nested" => judge_sent!(inputs, Old, Nested, claim),
+        "choice" => judge_sent!(inputs, OldVersioned, Versioned, claim),
+        "set" => judge_sent!(inputs, OldGrown, grown::Grown, claim),
+        "later" => judge_sent!(inputs, New, Newest, claim),
+        "leap" => judge_sent!(inputs, Old, Newest, claim),
+        _ => Err(LineError::NoType),
     }
 }
 

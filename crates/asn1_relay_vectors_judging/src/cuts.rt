@@ -1,26 +1,19 @@
 //! Inputs, truncated at each octet. Each prefix is decoded by each set of rules and by three calls, and their results
 //! are compared.
 use crate::judged::{Encoded, Judged, Rules, Step, Told, part};
-use crate::judging::{CODECS, Subject};
+use crate::judging::{CODECS, gives};
 use crate::streams::Way;
 use asn1_relay_core::{Codec, DecodeError, RecodeFault, RelayFault, RelayFaultKind};
-use asn1_relay_vectors_lines::limits::Limits;
 use asn1_relay_vectors_lines::line::{Limit, LineError, Verdict};
 use asn1_relay_vectors_lines::octets::shown;
 use std::alloc::{AllocError, Global};
 
-/// The first octet and the length of inputs for which truncation at each octet would cost decoders 10^9 steps: a list
-/// of 16,385 elements, and fragments followed by 16,384 octets or more.
-const HEAVY: [(u8, usize); 8] = [
-    (0x02, 16_388),
-    (0xC1, 81_923),
-    (0xC2, 49_155),
-    (0xC3, 65_538),
-    (0xC4, 80_003),
-    (0xC4, 81_923),
-    (0xC4, 81_924),
-    (0xC4, 131_075),
-];
+/// The first octets and the length of a list of 16,385 elements. Decoders of its truncated prefixes would take 10^9
+/// steps.
+const LIST: ([u8; 4], usize) = ([0x02, 0x40, 0x01, 0xFF], 16_388);
+
+/// How many octets decoders may copy from the first fragment of an input, over all its truncated prefixes.
+const COPIED: usize = 500_000_000;
 
 /// The number of sets of rules whose encodings differ. The strict rules after them encode as two of these do, and a
 /// relay from the strict rules goes to those.
@@ -34,8 +27,6 @@ const ENDS: usize = 512;
 pub struct Input<'a> {
     /// The name of the type, and its constraints.
     pub name: &'a str,
-    /// The constraints.
-    pub limits: &'a Limits,
     /// The octets.
     pub octets: &'a [u8],
 }
@@ -52,7 +43,7 @@ pub enum Front {
 }
 
 /// What was found in the prefixes of octets, by one set of rules.
-#[derive(Clone, Copy, Debug)]
+#[derive(Clone, Copy, Debug, PartialEq, Eq)]
 struct Found {
     /// The length of the shortest prefix that is an encoding, in octets.
     least: Option<usize>,
@@ -60,6 +51,8 @@ struct Found {
     reason: Option<DecodeError>,
     /// Whether there is more than one such reason.
     is_mixed: bool,
+    /// A sum over the encodings of the value in all sets of rules.
+    sum: u64,
 }
 
 impl Found {
@@ -68,6 +61,7 @@ impl Found {
         least: None,
         reason: None,
         is_mixed: false,
+        sum: 0,
     };
 
     /// Adds a prefix that is rejected.
@@ -114,6 +108,15 @@ struct Tried {
     fronts: Fronts,
 }
 
+impl Tried {
+    /// Whether another input is the same, and something else was found in it.
+    fn is_unlike(&self, other: &Tried) -> bool {
+        self.name.as_str() == other.name.as_str()
+            && self.octets.as_slice() == other.octets.as_slice()
+            && self.fronts != other.fronts
+    }
+}
+
 /// All inputs that were tried.
 #[derive(Drop)]
 pub struct Inputs {
@@ -145,6 +148,15 @@ impl Inputs {
     /// What was tried.
     pub fn tries(&self) -> Tries {
         self.tries
+    }
+
+    /// The name of the first input that was tried over other types too and in which something else was found there.
+    pub fn first_unlike(&self, others: &Inputs) -> Option<&str> {
+        let unlike = self.tried.iter().find(|tried| others
+            .tried
+            .iter()
+            .any(|other| tried.is_unlike(other)));
+        Some(unlike?.name.as_str())
     }
 
     /// Tries an input, unless it was tried before. In these rules its prefixes must be as `front` says.
@@ -197,21 +209,21 @@ fn try_input(
     input: Input<'_>,
     tries: &mut Tries,
 ) -> Result<Fronts, LineError> {
-    let Input { limits, octets, .. } = input;
+    let Input { octets, .. } = input;
     let lengths = lengths_of(alloc, octets)?;
     let mut fronts = [Found::NOTHING; 6];
     for place in 0..CODECS.len() {
         let reading = Reading {
-            subject: Subject { alloc, limits },
+            alloc,
             octets,
             lengths: lengths.as_slice(),
             from: CODECS[place],
         };
         fronts[place] = reading.first(of, tries)?;
         if let Some(least) = fronts[place].least {
-            reading.goes_on(of, least, tries)?;
+            fronts[place].sum = reading.goes_on(of, least, tries)?;
         }
-        if limits.is_none() {
+        if of.is_relayed() {
             reading.relays(of, CODECS[(place + 2) % CODECS.len()], tries)?;
             if place < WRITERS {
                 reading.relays(of, CODECS[place], tries)?;
@@ -238,16 +250,27 @@ fn lengths_of(alloc: Global, octets: &[u8]) -> Result<Vec<usize>, LineError> {
 
 /// Whether octets are truncated near their ends only.
 fn is_heavy(octets: &[u8]) -> bool {
-    match octets.first() {
-        Some(first) => HEAVY.contains(&(*first, octets.len())),
-        None => false,
-    }
+    let (begins, length) = LIST;
+    copied(octets) > COPIED || octets.len() == length && octets.starts_with(&begins)
+}
+
+/// How many octets decoders copy from the fragment with which octets begin (X.691 11.9.3.8), if they do, over all
+/// prefixes that are truncated after it.
+fn copied(octets: &[u8]) -> usize {
+    let fragment: usize = match octets.first() {
+        Some(0xC1) => 16_384,
+        Some(0xC2) => 32_768,
+        Some(0xC3) => 49_152,
+        Some(0xC4) => 65_536,
+        _ => 0,
+    };
+    fragment.saturating_mul(octets.len().saturating_sub(fragment))
 }
 
 /// Octets, the lengths of the prefixes that are tried, and the rules by which they are decoded.
 #[derive(Clone, Copy)]
 struct Reading<'a> {
-    subject: Subject<'a>,
+    alloc: Global,
     octets: &'a [u8],
     lengths: &'a [usize],
     from: Codec,
@@ -262,8 +285,8 @@ impl<'a> Reading<'a> {
             let to = CODECS[*length % CODECS.len()];
             tries.cuts = tries.cuts.saturating_add(1);
             match self.front(of, to, part(self.octets, 0, *length), tries) {
-                Ok(_) => {
-                    found.least = Some(*length);
+                Ok(told) => {
+                    found.least = Some(told.taken.unwrap_or(*length));
                     return Ok(found);
                 }
                 Err(error) => {
@@ -277,13 +300,16 @@ impl<'a> Reading<'a> {
     }
 
     /// The shortest prefix that is an encoding must be decoded completely, and `recode` must encode the same value.
-    /// More octets after it must change nothing.
-    fn goes_on(&self, of: &dyn Judged, least: usize, tries: &mut Tries) -> Verdict {
+    /// More octets after it must change nothing. Returns a sum over the encodings of the value.
+    fn goes_on(&self, of: &dyn Judged, least: usize, tries: &mut Tries) -> Result<u64, LineError> {
+        let mut sum = 0;
         for to in CODECS {
             let Ok(told) = self.front(of, to, part(self.octets, 0, least), tries) else {
-                return self.wrong(least, "rejected, and then decoded");
+                self.wrong(least, "rejected, and then decoded")?;
+                return Ok(sum);
             };
-            self.is_taken(&told, least, least)?;
+            sum = sum_with(sum, &told.encoded);
+            self.is_taken(of, &told, least, least)?;
             let wanted = match &told.encoded {
                 Ok(octets) => Ok(octets.as_slice()),
                 Err(error) => Err(RecodeFault::NoTarget(*error)),
@@ -291,7 +317,7 @@ impl<'a> Reading<'a> {
             self.is_recoded(of, to, least, wanted, tries)?;
             self.goes_on_to(of, to, least, &told.encoded, tries)?;
         }
-        Ok(())
+        Ok(sum)
     }
 
     /// With octets after the shortest encoding, the same octets must be decoded to the same value, and `recode` must
@@ -312,7 +338,7 @@ impl<'a> Reading<'a> {
             let Ok(told) = self.front(of, to, part(self.octets, 0, *length), tries) else {
                 return self.wrong(*length, "rejected, but a prefix is decoded");
             };
-            self.is_taken(&told, least, *length)?;
+            self.is_taken(of, &told, least, *length)?;
             if !is_same(&told.encoded, encoded) {
                 return self.wrong(*length, "not the same value as for a shorter prefix");
             }
@@ -330,21 +356,20 @@ impl<'a> Reading<'a> {
         tries: &mut Tries,
     ) -> Result<Told, DecodeError> {
         tries.answers = tries.answers.saturating_add(1);
-        let Subject { alloc, limits } = self.subject;
         let rules = Rules {
             from: self.from,
             to,
         };
-        of.front(alloc, limits, rules, octets)
+        of.front(self.alloc, rules, octets)
     }
 
     /// Of a prefix, `taken` octets must be decoded. (Decoders with constraints do not report this.)
-    fn is_taken(&self, told: &Told, taken: usize, length: usize) -> Verdict {
-        let wanted = self.subject.limits.is_none().then_some(taken);
+    fn is_taken(&self, of: &dyn Judged, told: &Told, taken: usize, length: usize) -> Verdict {
+        let wanted = of.is_relayed().then_some(taken);
         if told.taken == wanted {
             return Ok(());
         }
-        let found = format!(in self.subject.alloc; "{:?} are taken, not {wanted:?}", told.taken)?;
+        let found = format!(in self.alloc; "{:?} are taken, not {wanted:?}", told.taken)?;
         self.wrong(length, found.as_str())
     }
 
@@ -357,12 +382,16 @@ impl<'a> Reading<'a> {
         wanted: Result<&[u8], RecodeFault>,
         tries: &mut Tries,
     ) -> Verdict {
-        if !self.subject.limits.is_none() {
+        if !of.is_relayed() {
             return Ok(());
         }
         tries.answers = tries.answers.saturating_add(1);
         let beginning = part(self.octets, 0, length);
-        match self.subject.gives(of, self.from, beginning, to, wanted) {
+        let rules = Rules {
+            from: self.from,
+            to,
+        };
+        match gives(self.alloc, of, rules, beginning, wanted) {
             Err(LineError::Otherwise(found)) => self.wrong(length, found.as_str()),
             verdict => verdict,
         }
@@ -379,9 +408,10 @@ impl<'a> Reading<'a> {
             to,
             limit,
         };
-        let alloc = self.subject.alloc;
+        let alloc = self.alloc;
         let mut out = Vec::new(alloc);
         let steps = of.follow(alloc, way, self.octets, self.lengths, &mut out)?;
+        let steps = steps.ok_or(LineError::NoStreams)?;
         let mut foretold = Foretold::new(alloc, to);
         for place in 0..self.lengths.len() {
             let length = self.lengths[place];
@@ -405,10 +435,21 @@ impl<'a> Reading<'a> {
     /// A line is wrong: the error says what a prefix gave.
     fn wrong(&self, length: usize, found: &str) -> Verdict {
         let from = self.from;
-        let alloc = self.subject.alloc;
+        let alloc = self.alloc;
         let found = format!(in alloc; "truncated after {length} octets, by {from:?}: {found}")?;
         Err(LineError::Otherwise(found))
     }
+}
+
+/// A sum over encodings, with one more.
+fn sum_with(sum: u64, encoded: &Encoded) -> u64 {
+    let mut sum = sum.wrapping_mul(31);
+    if let Ok(octets) = encoded {
+        for octet in octets.iter() {
+            sum = sum.wrapping_mul(31).wrapping_add(u64::from(*octet));
+        }
+    }
+    sum
 }
 
 /// Whether the encodings of two values are the same, or the errors in their place.

@@ -3,7 +3,6 @@ use crate::streams::{Relayed, Way};
 use asn1_relay_core::{
     Codec, DecodeError, EncodeError, MemorySink, RecodeFault, RelayFault, RunFault,
 };
-use asn1_relay_vectors_lines::limits::Limits;
 use std::alloc::{AllocError, Global};
 
 /// The sets of rules of the input and of the output of a translation.
@@ -34,6 +33,28 @@ pub struct Told {
     pub encoded: Encoded,
 }
 
+impl Told {
+    /// What was decoded, by the remainder that was returned and the encoding of the value. Of a long remainder only the
+    /// two ends are compared with the octets.
+    pub fn new(octets: &[u8], rest: &[u8], encoded: Encoded) -> Told {
+        let taken = taken_before(octets, rest);
+        Told { taken, encoded }
+    }
+}
+
+/// How many octets of a remainder are compared at either end.
+const COMPARED: usize = 64;
+
+/// The length of the octets before `rest`, if they end in it.
+fn taken_before(octets: &[u8], rest: &[u8]) -> Option<usize> {
+    let taken = octets.len().checked_sub(rest.len())?;
+    let behind = part(octets, taken, octets.len());
+    let last = rest.len().saturating_sub(COMPARED);
+    let is_rest = part(behind, 0, COMPARED) == part(rest, 0, COMPARED)
+        && part(behind, last, rest.len()) == part(rest, last, rest.len());
+    is_rest.then_some(taken)
+}
+
 /// The results of a relay for a piece, and then for the end of the stream.
 #[derive(Clone, Copy, Debug)]
 pub struct Step {
@@ -59,24 +80,23 @@ impl Step {
 
 /// A type of the vectors.
 pub trait Judged {
-    /// Translates octets from one set of rules to another. With constraints, octets after a message are ignored.
-    fn translate(&self, alloc: Global, limits: &Limits, rules: Rules, octets: &[u8]) -> Translated;
+    /// Whether its messages are relayed in streams. With constraints that are given to each call they are not: such
+    /// decoders return no remainder.
+    fn is_relayed(&self) -> bool;
+
+    /// Translates octets from one set of rules to another. If its messages are not relayed, octets after one are
+    /// ignored.
+    fn translate(&self, alloc: Global, rules: Rules, octets: &[u8]) -> Translated;
 
     /// Decodes the value with whose encoding octets begin, and encodes it.
     ///
     /// # Errors
     ///
     /// Why the octets begin with no encoding.
-    fn front(
-        &self,
-        alloc: Global,
-        limits: &Limits,
-        rules: Rules,
-        octets: &[u8],
-    ) -> Result<Told, DecodeError>;
+    fn front(&self, alloc: Global, rules: Rules, octets: &[u8]) -> Result<Told, DecodeError>;
 
     /// Feeds octets to a relay, in pieces that end at these positions. The output of each piece goes to a buffer of its
-    /// own, and from there to `out`.
+    /// own, and from there to `out`. None if its messages are not relayed.
     ///
     /// # Errors
     ///
@@ -88,13 +108,20 @@ pub trait Judged {
         octets: &[u8],
         ends: &[usize],
         out: &mut Vec<u8>,
-    ) -> Result<Vec<Step>, AllocError>;
+    ) -> Result<Option<Vec<Step>>, AllocError>;
 
-    /// Feeds the pieces of a stream to a relay, up to its first error, and ends the stream.
-    fn relay(&self, alloc: Global, way: Way, pieces: &[&[u8]], out: &mut Vec<u8>) -> Relayed;
+    /// Feeds the pieces of a stream to a relay, up to its first error, and ends the stream. None if its messages are
+    /// not relayed.
+    fn relay(
+        &self,
+        alloc: Global,
+        way: Way,
+        pieces: &[&[u8]],
+        out: &mut Vec<u8>,
+    ) -> Option<Relayed>;
 
-    /// Runs a relay from memory to memory.
-    fn run(&self, alloc: Global, way: Way, octets: Vec<u8>) -> Ran;
+    /// Runs a relay from memory to memory. None if its messages are not relayed.
+    fn run(&self, alloc: Global, way: Way, octets: Vec<u8>) -> Option<Ran>;
 }
 
 /// The octets from one position up to another.

@@ -4,7 +4,6 @@ mod every;
 use crate::cuts::{Front, Input, Inputs};
 use crate::judged::Judged;
 use asn1_relay_core::{Codec, Hop, RouteFault, RouteFaultKind, Version};
-use asn1_relay_vectors_lines::limits::Limits;
 use asn1_relay_vectors_lines::line::{LineError, Verdict};
 use asn1_relay_vectors_lines::octets::shown;
 use asn1_relay_vectors_lines::route::{Arrival, Route};
@@ -22,8 +21,12 @@ pub struct Way<'a> {
 
 /// A pair of versions.
 pub trait Versions {
-    /// Sends octets over hops; none if there is no hop.
-    fn send(&self, alloc: Global, way: Way<'_>, octets: &[u8]) -> Option<Arrival>;
+    /// Sends octets over hops.
+    ///
+    /// # Errors
+    ///
+    /// `Form` if there is no hop, `Otherwise` if it is no pair of versions, and `Memory` if memory runs out.
+    fn send(&self, alloc: Global, way: Way<'_>, octets: &[u8]) -> Result<Arrival, LineError>;
 
     /// The expected outcome of the encoding of the sample with this index, sent over hops. If there is no hop, it is
     /// this encoding. None if there is no such sample.
@@ -32,11 +35,49 @@ pub trait Versions {
 
 /// What a line says of a pair of versions.
 #[derive(Drop)]
-pub enum Claim<'a> {
-    /// A message of the pair with this name arrives by a route, or is rejected.
-    One(&'a str, Route),
+pub enum Claim {
+    /// A message arrives by a route, or is rejected.
+    One(Route),
     /// For every short list of hops, messages arrive as their values predict.
     Every,
+}
+
+/// Reads a line of routes, which begins with `route` or `routes`: the name of a pair of versions, and what is said of
+/// it. None if it begins with another word.
+///
+/// # Errors
+///
+/// Those of `Route::read`.
+pub fn read_routes(alloc: Global, said: &str) -> Result<Option<(&str, Claim)>, LineError> {
+    match said.split_once(' ') {
+        Some(("route", text)) => {
+            let (pair, text) = text.split_once(' ').ok_or(LineError::Form)?;
+            Ok(Some((pair, Claim::One(Route::read(alloc, text)?))))
+        }
+        Some(("routes", pair)) => Ok(Some((pair, Claim::Every))),
+        _ => Ok(None),
+    }
+}
+
+/// Judges what a line says of a pair of versions, and tries its octets as of either version when truncated.
+///
+/// # Errors
+///
+/// Those of `judge_claim`.
+pub fn judge(
+    inputs: &mut Inputs,
+    of: &dyn Versions,
+    older: &dyn Judged,
+    newer: &dyn Judged,
+    pair: &str,
+    claim: &Claim,
+) -> Verdict {
+    judge_claim(inputs.alloc(), of, claim)?;
+    if let Claim::One(route) = claim {
+        judge_cuts(inputs, older, Version::Old, pair, route)?;
+        judge_cuts(inputs, newer, Version::New, pair, route)?;
+    }
+    Ok(())
 }
 
 /// Judges what a line says of a pair of versions.
@@ -44,16 +85,9 @@ pub enum Claim<'a> {
 /// # Errors
 ///
 /// `Otherwise` if the library does not do what is said, `Form` if a route has no hop, and `Memory` if memory runs out.
-pub fn judge(
-    inputs: &mut Inputs,
-    of: &dyn Versions,
-    older: &dyn Judged,
-    newer: &dyn Judged,
-    claim: &Claim<'_>,
-) -> Verdict {
-    let alloc = inputs.alloc();
+pub fn judge_claim(alloc: Global, of: &dyn Versions, claim: &Claim) -> Verdict {
     match claim {
-        Claim::One(pair, route) => {
+        Claim::One(route) => {
             let hops = route.hops.as_slice();
             for from in route.source.rules.iter() {
                 let way = Way { from: *from, hops };
@@ -65,8 +99,7 @@ pub fn judge(
                     &route.arrival,
                 )?;
             }
-            judge_cuts(inputs, older, Version::Old, pair, route)?;
-            judge_cuts(inputs, newer, Version::New, pair, route)
+            Ok(())
         }
         Claim::Every => every::judge_every(alloc, of),
     }
@@ -83,7 +116,6 @@ fn judge_cuts(
     let name = format!(in inputs.alloc(); "{pair} {version:?}")?;
     let input = Input {
         name: name.as_str(),
-        limits: &Limits::NONE,
         octets: route.source.octets.as_slice(),
     };
     let rules = match route.hops.first() {
@@ -120,7 +152,7 @@ fn arrives(
     octets: &[u8],
     wanted: &Arrival,
 ) -> Verdict {
-    let found = of.send(alloc, way, octets).ok_or(LineError::Form)?;
+    let found = of.send(alloc, way, octets)?;
     let is_wanted = match (&found, wanted) {
         (Ok(found), Ok(wanted)) => found.as_slice() == wanted.as_slice(),
         (Err(found), Err(wanted)) => *found == *wanted,

@@ -215,7 +215,9 @@ impl<'a> Stream<'a> {
     fn relays(&self, of: &dyn Judged, cutting: Cutting) -> Verdict {
         let pieces = pieces(self.alloc, self.octets, cutting)?;
         let mut out = Vec::new(self.alloc);
-        let found = of.relay(self.alloc, self.way, pieces.as_slice(), &mut out);
+        let found = of
+            .relay(self.alloc, self.way, pieces.as_slice(), &mut out)
+            .ok_or(LineError::NoStreams)?;
         if out.as_slice() == self.wanted && found.answer == self.answer && found.is_lasting() {
             return Ok(());
         }
@@ -226,7 +228,8 @@ impl<'a> Stream<'a> {
     /// A run from memory to memory must give what is expected.
     fn runs(&self, of: &dyn Judged) -> Verdict {
         let input = Vec::from_slice(self.alloc, self.octets)?;
-        let (found, sink) = of.run(self.alloc, self.way, input);
+        let ran = of.run(self.alloc, self.way, input);
+        let (found, sink) = ran.ok_or(LineError::NoStreams)?;
         if sink.octets() == self.wanted && found == self.answer.map_err(RunFault::Relay) {
             return Ok(());
         }

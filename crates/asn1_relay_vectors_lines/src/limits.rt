@@ -19,23 +19,17 @@ struct Alphabet {
 }
 
 impl Limits {
-    /// No constraints.
-    pub const NONE: Limits = Limits {
-        value: None,
-        size: None,
-        alphabet: None,
-    };
-
-    /// Reads constraints, each in parentheses, if there are any: `(0..255,...)`, `(SIZE(5))`, `(FROM("01"))`.
+    /// Reads constraints, each in parentheses: `(0..255,...)`, `(SIZE(5))`, `(FROM("01"))`.
     ///
     /// # Errors
     ///
     /// `Limits` if one does not have that form, and `Memory` if memory runs out.
     pub fn read(alloc: Global, text: &str) -> Result<Limits, LineError> {
-        let mut limits = Limits::NONE;
-        if text.is_empty() {
-            return Ok(limits);
-        }
+        let mut limits = Limits {
+            value: None,
+            size: None,
+            alphabet: None,
+        };
         let inner = inside(text, "(", ")").ok_or(LineError::Limits)?;
         for part in inner.split(")(") {
             limits.push(alloc, part)?;
@@ -62,11 +56,6 @@ impl Limits {
             self.value = Some(Extensible::new(value).set_extensible(extensible));
         }
         Ok(())
-    }
-
-    /// Whether there are no constraints.
-    pub fn is_none(&self) -> bool {
-        self.value.is_none() && self.size.is_none() && self.alphabet.is_none()
     }
 
     /// The constraints in the form of the codecs.

@@ -1,7 +1,6 @@
 //! What a line says about octets.
 ghost use Rattle.std.specs.Prelude.{◌≤◌};
 
-use crate::limits::Limits;
 use crate::octets::push_octets;
 use asn1_relay_core::{Codec, DecodeError, EncodeError, RecodeFault, RelayFault, RelayFaultKind};
 use std::alloc::{AllocError, Global};
@@ -29,15 +28,15 @@ pub enum LineError {
     /// A word is not the name of an error, or of none that may be named there.
     #[error("there is no such error")]
     NoError,
-    /// No type has this name.
-    #[error("there is no such type")]
+    /// No type, or no pair of versions, has this name.
+    #[error("there is no type or pair of versions of this name")]
     NoType,
+    /// Messages of the type are not relayed in streams.
+    #[error("there are no streams of this type")]
+    NoStreams,
     /// The result for octets, a stream or a route is not what the line says.
     #[error("{0}")]
     Otherwise(String),
-    /// No pair of versions has this name.
-    #[error("there is no such pair of versions")]
-    NoPair,
     /// A pair of versions has no sample values.
     #[error("there are no samples of this pair of versions")]
     NoSample,
@@ -108,8 +107,8 @@ pub struct Line<'a> {
     pub kind: &'a str,
     /// The name of the type, and its constraints as they are written.
     pub constrained: &'a str,
-    /// Its constraints.
-    pub limits: Limits,
+    /// Its constraints as they are written.
+    pub constraints: &'a str,
     /// The claim.
     pub claim: Claim,
 }
@@ -119,7 +118,7 @@ impl<'a> Line<'a> {
     ///
     /// # Errors
     ///
-    /// `Form`, `Rules`, `Octets`, `Limits`, `Limit` or `NoError` if it does not have the form of a line, and `Memory`
+    /// `Form`, `Rules`, `Octets`, `Limit` or `NoError` if it does not have the form of a line, and `Memory`
     /// if memory runs out.
     pub fn read(alloc: Global, said: &'a str) -> Result<Line<'a>, LineError> {
         let (kind, text) = said.split_once(' ').ok_or(LineError::Form)?;
@@ -129,7 +128,7 @@ impl<'a> Line<'a> {
             return Ok(Line {
                 kind,
                 constrained: kind,
-                limits: Limits::NONE,
+                constraints: "",
                 claim,
             });
         }
@@ -138,12 +137,11 @@ impl<'a> Line<'a> {
             Some(place) => kind.split_at(place),
             None => (kind, ""),
         };
-        let limits = Limits::read(alloc, constraints)?;
         let claim = read_claim(alloc, text)?;
         Ok(Line {
             kind,
             constrained,
-            limits,
+            constraints,
             claim,
         })
     }

@@ -1,45 +1,17 @@
-//! Integers with an extensible value range.
+//! An integer with an extensible value range.
 ghost use Rattle.std.specs.Prelude.{◌≡◌, refl, pos, Some, true};
 ghost use Rattle.asn1_schema.specs.Author.{bounded_by};
 ghost use Rattle.asn1_schema_constraints.specs.Terms.{meant};
 ghost use Rattle.asn1_schema.proofs.Author.{integer_type};
 
 use asn1_schema::{Bounded, Constrained, Constraints, ConstraintsOf, Described, Extensible, Value};
-use asn1_values::Integer;
 
 /// (0..255, ...).
 #[derive(Clone, Copy, Debug, PartialEq, Eq)]
 pub struct OctetOrMore;
 
-/// INTEGER (0..255, ...).
-pub type ExtensibleInteger = Constrained<OctetOrMore, Integer>;
-
 /// INTEGER (0..255, ...). The Rust type cannot hold values above 255.
 pub type ExtensibleOctet = Constrained<OctetOrMore, u8>;
-
-impl ConstraintsOf<Integer> for OctetOrMore {
-    ghost tags = { ⟦<Integer as Described>⟧.tags };
-
-    ghost terms = { bounded_by (Some (pos 0)) (Some (pos 255)) true };
-
-    ghost under = { ⟦<Integer as Described>⟧.under };
-
-    ghost meaning = { ⟦<Integer as Described>⟧.meaning };
-
-    ghost lawful = { integer_type _ _ refl refl refl };
-
-    ghost valued = { ⟦<Integer as Described>⟧.valued_under };
-
-    fn constraints() -> Constraints<'static> {
-        octet_or_more()
-    }
-
-    ghost same_tags = { refl };
-
-    ghost same_under = { λ _. refl };
-
-    ghost same_meaning = { λ _. refl };
-}
 
 impl ConstraintsOf<u8> for OctetOrMore {
     ghost tags = { ⟦<u8 as Described>⟧.tags };

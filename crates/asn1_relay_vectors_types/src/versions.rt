@@ -12,20 +12,24 @@ ghost use Rattle.asn1_relay_vectors_types.specs.Growing.{required_stays};
 ghost use Rattle.asn1_relay_vectors_types.specs.Unfolding.{bag_unfolds, group_unfolds, list_unfolds, nest_unfolds};
 
 use crate::listed::{Listed, Sequence};
-use crate::sequences::Tagged;
-use crate::sizes::ListOfOneOrTwo;
 use crate::written::{Lent, WriteComponents};
 use asn1_relay_types::{Nest, New, NewDefault, Old, OldDefault};
 use asn1_schema::{
     AddedGroupComponent, AddedOptionalComponent, AddedRequiredComponent, AdditionsOf, Components,
-    ComponentsOf, DecodeComponents, DecodeError, DecodeExtension, DecodeSequence, Decoder,
-    Described, EncodeError, EncodeExtension, EncodeSequence, Encoder, End, Extends,
-    ExtendsComponents, ExtensibleComponents, Heading, NoAddition, NoMore, OneAddition,
-    OptionalComponent, RequiredComponent, Set, SetOf, Tag, TwoAdditions,
+    ComponentsOf, Constrained, DecodeComponents, DecodeError, DecodeExtension, DecodeSequence,
+    Decoder, Described, EncodeError, EncodeExtension, EncodeSequence, Encoder, End, Extends,
+    ExtendsComponents, ExtensibleComponents, Heading, Implicit, NoAddition, NoMore, OneAddition,
+    OptionalComponent, RequiredComponent, Set, SetOf, SizeRange, Tag, TwoAdditions, tag,
 };
 use asn1_schema_example::grown::GrownFields;
 use asn1_values::{Integer, OctetString};
 use std::alloc::Global;
+
+/// A type with an implicit context-specific tag.
+type Tagged<const NUMBER: u32, T> = Implicit<tag::Context<NUMBER>, T>;
+
+/// SEQUENCE (SIZE (1..2)) OF.
+type ListOfOneOrTwo<T> = Constrained<SizeRange<1, 2>, Vec<T>>;
 
 /// A BOOLEAN, and these extension additions.
 type Flagged<M, A> = RequiredComponent<bool, ExtensibleComponents<M, A>>;

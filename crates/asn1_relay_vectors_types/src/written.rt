@@ -6,9 +6,8 @@ ghost use Rattle.asn1_schema_errors.specs.Calls.{EncoderCall};
 
 use asn1_schema::{
     AddedGroupComponent, AddedOptionalComponent, AddedRequiredComponent, AdditionsOf, ComponentsOf,
-    CountOf, DefaultOf, DefaultedComponent, Encode, EncodeComponents, EncodeError, EncodeExtension,
-    EncodeSequence, Encoder, End, ExtensibleComponents, Group, NoMore, OptionalComponent,
-    RequiredComponent,
+    CountOf, Encode, EncodeComponents, EncodeError, EncodeExtension, EncodeSequence, Encoder, End,
+    ExtensibleComponents, Group, NoMore, OptionalComponent, RequiredComponent,
 };
 
 /// Components that are encoded as they were read.
@@ -50,15 +49,6 @@ impl<T: Encode, R: WriteComponents> WriteComponents for OptionalComponent<T, R> 
     fn write_components<E: Encoder>(&self, encoder: &mut E) -> Result<(), EncodeError> {
         encoder.encode_optional(&self.0)?;
         self.1.write_components(encoder)?;
-        Ok(())
-    }
-}
-
-impl<V: DefaultOf<T>, T: Encode, R: WriteComponents> WriteComponents
-    for DefaultedComponent<V, T, R> {
-    fn write_components<E: Encoder>(&self, encoder: &mut E) -> Result<(), EncodeError> {
-        encoder.encode_default::<V, T>(&self.0)?;
-        self.2.write_components(encoder)?;
         Ok(())
     }
 }

@@ -1,6 +1,8 @@
 //! Names of numbers, which no text has, and a type outside its table.
+use asn1_relay_core::Codec;
 use asn1_table_building::{BuildError, build};
 use asn1_table_names::{NamedNumber, Names, TypeNames};
+use asn1_table_relay::recode_by;
 use asn1_table_tape::Event;
 use asn1_table_types::Types;
 use asn1_values_integers::Integer;
@@ -43,4 +45,17 @@ fn refused(alloc: Global) -> Option<BuildError> {
 #[test]
 fn a_type_outside_its_table(rt: HostRuntime) {
     assert!(rt; refused(rt.alloc()) == Some(BuildError::OutOfPlace { index: 0 }));
+}
+
+/// Whether an octet is refused as a message of the type at index 9 of an empty table.
+fn is_no_message(alloc: Global) -> bool {
+    match Types::new(alloc, Vec::new(alloc)) {
+        Ok(types) => recode_by(alloc, &types, 9, Codec::Coer, Codec::Uper, &[0xFF]).is_err(),
+        Err(_) => false,
+    }
+}
+
+#[test]
+fn a_message_outside_a_table(rt: HostRuntime) {
+    assert!(rt; is_no_message(rt.alloc()));
 }
