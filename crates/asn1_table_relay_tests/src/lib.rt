@@ -1,19 +1,7 @@
-//! Tests of translations by tables of types: octets by hand in UPER, OER and COER.
+//! The example of docs/TABLES.md, and tests of what the rows of `asn1_table_rows` cannot say.
 #![tactic(auto)]
 
 #[cfg(test)]
-mod choices;
+mod example;
 #[cfg(test)]
-mod common;
-#[cfg(test)]
-mod constructed_defaults;
-#[cfg(test)]
-mod default_values;
-#[cfg(test)]
-mod defaults;
-#[cfg(test)]
-mod messages;
-#[cfg(test)]
-mod nested_defaults;
-#[cfg(test)]
-mod streams;
+mod others;

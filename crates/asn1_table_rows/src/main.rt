@@ -1,10 +1,11 @@
 //! Judges rows on standard input about values of types of modules: which JSON text (X.697) and which octets in COER
-//! (X.696) are those of one value, which texts are no value, and what a builder makes of steps. `stdin` begins with
-//! their forms. It prints each row that does not hold, and what does, and how many there are. Its status is 1 if there
-//! is one.
+//! (X.696) are those of one value, which texts are no value, what a builder makes of steps, and what becomes of
+//! messages. `stdin` begins with their forms. It prints each row that does not hold, and what does, and how many there
+//! are. Its status is 1 if there is one.
 #![tactic(auto)]
 
 mod claims;
+mod messages;
 mod rows;
 mod steps;
 mod values;

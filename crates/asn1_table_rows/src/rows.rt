@@ -1,5 +1,6 @@
 //! A row: a type, by which names its values are written, and a claim.
 use crate::claims::{events_claim, steps_claim, text_claim};
+use crate::messages::{message_claim, place_claim, stream_claim};
 use asn1_notation_syntax::read_syntax;
 use asn1_notation_types::{Additions, Table, table_of};
 use asn1_table_names::Names;
@@ -38,17 +39,24 @@ enum Form {
     Steps,
     /// Events of a tape.
     Events,
+    /// A message in other rules.
+    Message,
+    /// A stream of messages.
+    Stream,
+    /// Where a message is refused.
+    Place,
 }
 
 impl Form {
     /// What the first word of a row says of its claim, and the rest of the row.
     fn of(row: &str) -> (Form, &str) {
-        if let Some(rest) = row.strip_prefix("build ") {
-            return (Form::Steps, rest);
-        }
-        match row.strip_prefix("tape ") {
-            Some(rest) => (Form::Events, rest),
-            None => (Form::Text, row),
+        match row.split_once(' ') {
+            Some(("build", rest)) => (Form::Steps, rest),
+            Some(("tape", rest)) => (Form::Events, rest),
+            Some(("recode", rest)) => (Form::Message, rest),
+            Some(("stream", rest)) => (Form::Stream, rest),
+            Some(("locate", rest)) => (Form::Place, rest),
+            _ => (Form::Text, row),
         }
     }
 }
@@ -84,6 +92,9 @@ fn holding(
             Form::Text => text_claim(alloc, &table, claim),
             Form::Steps => steps_claim(alloc, &table, claim),
             Form::Events => events_claim(alloc, &table, claim),
+            Form::Message => message_claim(alloc, &table, claim),
+            Form::Stream => stream_claim(alloc, &table, claim),
+            Form::Place => place_claim(alloc, &table, claim),
         },
     }
 }

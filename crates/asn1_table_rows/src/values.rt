@@ -69,7 +69,7 @@ pub fn text_of(
 }
 
 /// Octets in hexadecimal.
-fn shown(alloc: Global, octets: &[u8]) -> Result<String, AllocError> {
+pub fn shown(alloc: Global, octets: &[u8]) -> Result<String, AllocError> {
     let mut text = String::new(alloc);
     for octet in octets {
         write!(text, " {octet:02X}")?;

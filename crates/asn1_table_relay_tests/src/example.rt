@@ -1,11 +1,11 @@
 //! The example of docs/TABLES.md: a table by hand, a message translated, its value walked, and a value built.
-use asn1_relay_core::Codec;
+use asn1_relay_core::{Codec, MemorySink, MemorySource};
 use asn1_schema_constraints::{Bounded, Sizes};
 use asn1_schema_tags::Tag;
 use asn1_table_authoring::{StepError, TapeBuilder};
 use asn1_table_names::{NamedEvents, Names, Part, Role, TypeNames};
 use asn1_table_oer::{decode_oer, encode_oer};
-use asn1_table_relay::recode_by;
+use asn1_table_relay::{recode_by, run_by};
 use asn1_table_tape::Event;
 use asn1_table_types::{Component, ComponentTable, NumberLimits, Presence, TypeNode, Types};
 use asn1_values_integers::Integer;
@@ -160,6 +160,48 @@ fn are(made: Option<Vec<u8>>, octets: &[u8]) -> bool {
 #[test]
 fn translates(rt: HostRuntime) {
     assert!(rt; are(translated(rt.alloc()), &PACKED));
+}
+
+/// Whether the message is refused as one of a type outside the table.
+fn is_refused_outside(alloc: Global) -> Option<bool> {
+    let types = table(alloc)?;
+    Some(recode_by(alloc, &types, 4, Codec::Coer, Codec::Coer, &OCTETS).is_err())
+}
+
+#[test]
+fn a_type_outside_the_table(rt: HostRuntime) {
+    assert!(rt; is_refused_outside(rt.alloc()) == Some(true));
+}
+
+/// The message three times, in COER and in UPER.
+const STREAM: [u8; 18] = [
+    0x80, 0xFF, 0x03, 0x01, 0x01, 0xFF, 0x80, 0xFF, 0x03, 0x01, 0x01, 0xFF, 0x80, 0xFF, 0x03, 0x01,
+    0x01, 0xFF,
+];
+
+const PACKED_STREAM: [u8; 6] = [0xE0, 0x06, 0xE0, 0x06, 0xE0, 0x06];
+
+/// Whether a run from COER to UPER, of messages of at most 12 octets, writes the message three times.
+fn is_run(alloc: Global) -> Option<bool> {
+    let types = table(alloc)?;
+    let mut source = MemorySource::new(Vec::from_slice(alloc, &STREAM).ok()?, None);
+    let mut sink = MemorySink::new(alloc, None);
+    let answer = run_by::<MemorySource, MemorySink>(
+        alloc,
+        &types,
+        3,
+        &mut source,
+        &mut sink,
+        Codec::Coer,
+        Codec::Uper,
+        12,
+    );
+    Some(answer.is_ok() && sink.octets() == PACKED_STREAM.as_slice())
+}
+
+#[test]
+fn runs(rt: HostRuntime) {
+    assert!(rt; is_run(rt.alloc()) == Some(true));
 }
 
 #[test]

@@ -1,5 +1,6 @@
-//! Names of numbers, which no text has, and a type outside its table.
+//! Names of numbers, which no text has, a type outside its table, and where octets differ.
 use asn1_table_building::{BuildError, build};
+use asn1_table_locating::first_difference;
 use asn1_table_names::{NamedNumber, Names, TypeNames};
 use asn1_table_tape::Event;
 use asn1_table_types::Types;
@@ -43,4 +44,11 @@ fn refused(alloc: Global) -> Option<BuildError> {
 #[test]
 fn a_type_outside_its_table(rt: HostRuntime) {
     assert!(rt; refused(rt.alloc()) == Some(BuildError::OutOfPlace { index: 0 }));
+}
+
+#[test]
+fn differences(rt: HostRuntime) {
+    assert_eq!(rt; first_difference(b"\x05\xFF", b"\x05\xFF"), None);
+    assert_eq!(rt; first_difference(b"\x05\xFF", b"\x05\xFE\x00"), Some(1));
+    assert_eq!(rt; first_difference(b"\x05\xFF\x00", b"\x05\xFF"), Some(2));
 }
