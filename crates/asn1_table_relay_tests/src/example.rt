@@ -2,7 +2,7 @@
 use asn1_relay_core::{Codec, MemorySink, MemorySource};
 use asn1_schema_constraints::{Bounded, Sizes};
 use asn1_schema_tags::Tag;
-use asn1_table_authoring::{StepError, TapeBuilder};
+use asn1_table_building::{StepError, TapeBuilder};
 use asn1_table_names::{NamedEvents, Names, Part, Role, TypeNames};
 use asn1_table_oer::{decode_oer, encode_oer};
 use asn1_table_relay::{recode_by, run_by};

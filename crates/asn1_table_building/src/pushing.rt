@@ -4,12 +4,12 @@
 ghost use Rattle.std.specs.Prelude.{◌≡◌, IfOk};
 ghost use Rattle.asn1_table_nodes.specs.Meaning.{type_at};
 ghost use Rattle.asn1_table_building.specs.Built.{IsTapeOf};
-ghost use Rattle.asn1_table_authoring.specs.Steps.{IsSameType};
+ghost use Rattle.asn1_table_building.specs.Steps.{IsSameType};
 
+use crate::building::build;
 use crate::gathering::{Given, gather};
 use crate::steps::StepError;
 use asn1_schema_tags::Chosen;
-use asn1_table_building::build;
 use asn1_table_names::{Part, alternative_of, component_at, is_list, is_scalar, is_sequence};
 use asn1_table_tape::{CharacterString, Event, elements_at, set_count};
 use asn1_table_types::Types;

@@ -1,6 +1,6 @@
 -- What the steps of a builder keep.
 use Rattle.std.specs.Prelude.{◌≡◌}
-use Rattle.asn1_table_authoring.specs.declared.pushing.TapeBuilder.{TapeBuilder}
+use Rattle.asn1_table_building.specs.declared.pushing.TapeBuilder.{TapeBuilder}
 
 -- The builder is still one of a value of the same type of the same table.
 abbrev pub IsSameType : TapeBuilder → TapeBuilder → Type 0

@@ -1,5 +1,5 @@
 //! Why a step of a builder is refused.
-use asn1_table_building::BuildError;
+use crate::errors::BuildError;
 use asn1_table_names::Part;
 use std::alloc::{AllocError, AllocFailed};
 use thiserror::Error;

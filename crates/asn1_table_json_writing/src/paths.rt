@@ -1,6 +1,6 @@
-//! The steps of a path.
+//! Paths to the parts of a value of a type of a table, as in `a.b[2].c`.
+use crate::labels::{alternative_label, part_label};
 use asn1_schema_tags::Chosen;
-use asn1_table_json_writing::{alternative_label, part_label};
 use asn1_table_names::{Names, Part};
 use asn1_table_types::Types;
 use std::alloc::{AllocError, Global};

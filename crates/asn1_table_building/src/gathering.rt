@@ -1,7 +1,7 @@
 //! The events of a SEQUENCE or SET, of components that were given in any order.
 #![tactic(auto, using(std::proofs::lemmas::Grind::common_steps))]
 
-use crate::StepError;
+use crate::steps::StepError;
 use asn1_table_names::{Part, is_group};
 use asn1_table_tape::{
     Event, count_optional, is_always_there, is_default, is_empty_group, lists_at,
