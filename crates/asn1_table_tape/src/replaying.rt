@@ -36,10 +36,68 @@ pub fn replay<E: Encoder>(encoder: &mut E, types: &Types, tape: &[Event]) -> Res
     ensures front { E.front encoder.new ≡ E.front encoder.old }
     ensures after { result ≡ Err EncodeError.AlreadyFailed → E.has_failed encoder.old }
 {
-    for event in tape {
-        replay_one(encoder, types, event)?;
+    let mut next = 0;
+    for _turn in 0..tape.len() {
+        if next >= tape.len() {
+            return Ok(());
+        }
+        match &tape[next] {
+            Event::Number(place, value) => {
+                next = match types.node(*place) {
+                    Some(TypeNode::Integer(limits)) => {
+                        replay_numbers(encoder, limits, *place, value, tape, next + 1)?
+                    }
+                    _ => {
+                        write_number(encoder, &None, value)?;
+                        next + 1
+                    }
+                };
+            }
+            event => {
+                replay_one(encoder, types, event)?;
+                next += 1;
+            }
+        }
     }
     Ok(())
+}
+
+// A number, and those of the same type that stand behind it in a list; answers what is next.
+#[inline(never)]
+fn replay_numbers<E: Encoder>(
+    encoder: &mut E,
+    limits: &Option<NumberLimits>,
+    place: usize,
+    first: &Integer,
+    tape: &[Event],
+    next: usize,
+) -> Result<usize, EncodeError> {
+    let constraints = number_constraints(limits);
+    let mut value = first;
+    let mut next = next;
+    for _turn in 0..tape.len() {
+        encoder.encode_integer(Tag::INTEGER, &constraints, value, Identifier::INTEGER)?;
+        let mut behind = next;
+        if behind < tape.len() {
+            if let Event::Further(true) = &tape[behind] {
+                behind += 1;
+            }
+        }
+        if behind >= tape.len() {
+            return Ok(next);
+        }
+        match &tape[behind] {
+            Event::Number(other, number) if *other == place => {
+                if behind > next {
+                    encoder.encode_further(true)?;
+                }
+                value = number;
+                next = behind + 1;
+            }
+            _ => return Ok(next),
+        }
+    }
+    Ok(next)
 }
 
 // One record.

@@ -12,7 +12,7 @@ ghost use Rattle.asn1_table_tape.specs.Records.{records_of};
 
 use crate::tape::{Event, keep};
 use crate::terms::{items_at, number_constraints, size_constraints};
-use asn1_schema_constraints::{Bounded, Sizes};
+use asn1_schema_constraints::{Bounded, Constraints, Sizes};
 use asn1_schema_decode::{Decoder, ReadOctets};
 use asn1_schema_errors::DecodeError;
 use asn1_schema_tags::Tag;
@@ -80,7 +80,19 @@ pub fn read_number<D: Decoder>(
     ensures call { DecoderCall D.has_failed (SameLevel D.levels) decoder.old decoder.new result }
 {
     let constraints = number_constraints(limits);
-    let number: Integer = decoder.decode_integer(alloc, Tag::INTEGER, &constraints)?;
+    read_number_under(alloc, decoder, &constraints, place, tape)
+}
+
+/// INTEGER (X.680 19) under this constraint; its type is at an index.
+#[inline(always)]
+pub fn read_number_under<D: Decoder>(
+    alloc: Global,
+    decoder: &mut D,
+    constraints: &Constraints,
+    place: usize,
+    tape: &mut Vec<Event>,
+) -> Result<(), DecodeError> {
+    let number: Integer = decoder.decode_integer(alloc, Tag::INTEGER, constraints)?;
     keep(decoder, tape, Event::Number(place, number))?;
     Ok(())
 }

@@ -25,6 +25,7 @@ use asn1_table_types::{
 use std::marker::Model;
 
 /// The value constraint of an INTEGER (X.680 51.4 and 52).
+#[inline(always)]
 pub fn number_constraints(limits: &Option<NumberLimits>) -> Constraints<'static>
     ensures bounds { bounds_of result.value ≡ bounds_in limits.now }
     ensures held { held_of result.value any_number ≡ held_in limits.now }
@@ -44,6 +45,7 @@ pub fn number_constraints(limits: &Option<NumberLimits>) -> Constraints<'static>
 }
 
 /// A size constraint (X.680 51.5 and 52).
+#[inline(always)]
 pub fn size_constraints(sizes: Sizes) -> Constraints<'static>
     ensures { sizes_of result.size ≡ size_of sizes }
 {

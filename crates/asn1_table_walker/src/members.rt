@@ -11,12 +11,16 @@ ghost use Rattle.asn1_table_tape.specs.Records.{records_of};
 ghost use Rattle.asn1_table_walker.specs.Frames.{pending_of, turn_of, levels_closed};
 
 use crate::frames::{Frame, Turn};
-use asn1_schema_constraints::{Bounded, Sizes};
+use crate::opening::{is_single, read_single};
+use asn1_schema_constraints::{Bounded, Constraints, Sizes};
 use asn1_schema_decode::Decoder;
 use asn1_schema_errors::DecodeError;
 use asn1_schema_tags::Tag;
-use asn1_table_tape::{Event, elements_at, keep, set_count, size_constraints};
-use asn1_table_types::Types;
+use asn1_table_tape::{
+    Event, elements_at, keep, number_constraints, read_number_under, set_count, size_constraints,
+};
+use asn1_table_types::{TypeNode, Types};
+use std::alloc::Global;
 
 /// Begins a SEQUENCE OF of these sizes; `place` is the index of its type.
 pub fn begin_list<D: Decoder>(
@@ -74,6 +78,7 @@ pub fn begin_bag<D: Decoder>(
 
 /// Reads whether another element follows. If none does, reads the end and sets the count.
 pub fn turn_members<D: Decoder>(
+    alloc: Global,
     decoder: &mut D,
     types: &Types,
     list: usize,
@@ -99,6 +104,86 @@ pub fn turn_members<D: Decoder>(
     let Some(members) = elements_at(types, list) else {
         return Err(decoder.refuse(DecodeError::TypeNotExtensible));
     };
+    match types.node(members) {
+        Some(TypeNode::Integer(limits)) => {
+            let constraints = number_constraints(limits);
+            read_numbers(alloc, decoder, &constraints, members, list, begins, count, tape)
+        }
+        Some(node) if is_single(node) => {
+            read_singles(alloc, decoder, types, node, members, list, begins, count, tape)
+        }
+        _ => turn_member(decoder, members, list, begins, count, tape),
+    }
+}
+
+// Reads the rest of a list of numbers.
+#[inline(never)]
+fn read_numbers<D: Decoder>(
+    alloc: Global,
+    decoder: &mut D,
+    constraints: &Constraints,
+    members: usize,
+    list: usize,
+    begins: usize,
+    count: usize,
+    tape: &mut Vec<Event>,
+) -> Result<Turn, DecodeError> {
+    for read in count..usize::MAX {
+        if !decoder.get_further()? {
+            return end_members(decoder, list, begins, read, tape);
+        }
+        keep(decoder, tape, Event::Further(true))?;
+        read_number_under(alloc, decoder, constraints, members, tape)?;
+    }
+    Err(decoder.refuse(DecodeError::SizeConstraintNotSatisfied))
+}
+
+// Reads the rest of a list of values of one record.
+fn read_singles<D: Decoder>(
+    alloc: Global,
+    decoder: &mut D,
+    types: &Types,
+    node: &TypeNode,
+    members: usize,
+    list: usize,
+    begins: usize,
+    count: usize,
+    tape: &mut Vec<Event>,
+) -> Result<Turn, DecodeError> {
+    for read in count..usize::MAX {
+        if !decoder.get_further()? {
+            return end_members(decoder, list, begins, read, tape);
+        }
+        keep(decoder, tape, Event::Further(true))?;
+        read_single(alloc, decoder, types, node, members, tape)?;
+    }
+    Err(decoder.refuse(DecodeError::SizeConstraintNotSatisfied))
+}
+
+// The end of a list.
+#[inline(never)]
+fn end_members<D: Decoder>(
+    decoder: &mut D,
+    list: usize,
+    begins: usize,
+    count: usize,
+    tape: &mut Vec<Event>,
+) -> Result<Turn, DecodeError> {
+    keep(decoder, tape, Event::Further(false))?;
+    decoder.end()?;
+    keep(decoder, tape, Event::Ends)?;
+    set_count(tape, begins, list, count);
+    Ok(Turn::Ended)
+}
+
+fn turn_member<D: Decoder>(
+    decoder: &mut D,
+    members: usize,
+    list: usize,
+    begins: usize,
+    count: usize,
+    tape: &mut Vec<Event>,
+) -> Result<Turn, DecodeError> {
     if decoder.get_further()? {
         if count == usize::MAX {
             return Err(decoder.refuse(DecodeError::SizeConstraintNotSatisfied));
@@ -111,9 +196,5 @@ pub fn turn_members<D: Decoder>(
         };
         return Ok(Turn::Value(rest, members));
     }
-    keep(decoder, tape, Event::Further(false))?;
-    decoder.end()?;
-    keep(decoder, tape, Event::Ends)?;
-    set_count(tape, begins, list, count);
-    Ok(Turn::Ended)
+    end_members(decoder, list, begins, count, tape)
 }

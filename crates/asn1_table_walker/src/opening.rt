@@ -75,8 +75,8 @@ pub fn open<D: Decoder>(
 }
 
 // Reads a value of one record; its type is at an index.
-#[inline(always)]
-fn read_single<D: Decoder>(
+#[inline(never)]
+pub fn read_single<D: Decoder>(
     alloc: Global,
     decoder: &mut D,
     types: &Types,
@@ -117,5 +117,19 @@ pub fn refuse_any<D: Decoder>(decoder: &mut D) -> DecodeError
     match decoder.decode_null(Tag::NULL) {
         Ok(()) => decoder.refuse(DecodeError::TypeNotExtensible),
         Err(error) => error,
+    }
+}
+
+/// Whether a value of the type is one record.
+#[inline(always)]
+pub fn is_single(node: &TypeNode) -> bool {
+    match node {
+        TypeNode::SequenceOf(_sizes, _members) => false,
+        TypeNode::SetOf(_sizes, _members) => false,
+        TypeNode::Sequence(_table) => false,
+        TypeNode::Set(_table) => false,
+        TypeNode::Group(_components) => false,
+        TypeNode::Choice(_table) => false,
+        _ => true,
     }
 }

@@ -20,11 +20,13 @@ ghost use Rattle.asn1_table_nodes.specs.declared.nodes.TypeNode.TheVariants.{Gro
 ghost use Rattle.asn1_table_walker.specs.Frames.{pending_of, turn_of, levels_closed};
 
 use crate::frames::{Frame, Turn};
+use crate::opening::{is_single, read_single};
 use asn1_schema_decode::Decoder;
 use asn1_schema_errors::DecodeError;
 use asn1_schema_tags::Tag;
 use asn1_table_tape::{ComponentLists, Event, count_optional, is_always_there, keep, lists_at};
 use asn1_table_types::{Component, ComponentTable, Presence, Types};
+use std::alloc::Global;
 
 /// Begins a SEQUENCE of these components; `place` is the index of its type.
 pub fn begin_sequence<D: Decoder>(
@@ -113,6 +115,7 @@ pub fn begin_group<D: Decoder>(
 
 /// Comes to the value of the next root component, leaves out an absent one, or goes on after the last.
 pub fn turn_root<D: Decoder>(
+    alloc: Global,
     decoder: &mut D,
     types: &Types,
     sequence: usize,
@@ -135,31 +138,56 @@ pub fn turn_root<D: Decoder>(
     let Some(lists) = lists_at(types, sequence) else {
         return Err(decoder.refuse(DecodeError::TypeNotExtensible));
     };
-    let Some(component) = lists.root().get(next) else {
-        return behind_root(decoder, &lists, sequence, tape);
-    };
-    let rest = Frame::Root {
-        sequence,
-        next: next + 1,
-    };
-    if is_always_there(component) {
-        return Ok(Turn::Value(rest, component.place));
+    let root = lists.root();
+    for index in next..root.len() {
+        let component = &root[index];
+        if let Some(turn) = turn_component(alloc, decoder, types, component, sequence, index, tape)? {
+            return Ok(turn);
+        }
     }
-    let from = tape.len();
-    let is_present = decoder.get_presence_bit()?;
-    keep(decoder, tape, Event::PresenceBit(is_present))?;
-    if !is_present {
-        return Ok(Turn::Again(rest));
+    behind_root(decoder, &lists, sequence, tape)
+}
+
+// Reads a root component, if it is one record, or absent; otherwise it comes first.
+#[inline(always)]
+fn turn_component<D: Decoder>(
+    alloc: Global,
+    decoder: &mut D,
+    types: &Types,
+    component: &Component,
+    sequence: usize,
+    index: usize,
+    tape: &mut Vec<Event>,
+) -> Result<Option<Turn>, DecodeError> {
+    if !is_always_there(component) {
+        let from = tape.len();
+        let is_present = decoder.get_presence_bit()?;
+        keep(decoder, tape, Event::PresenceBit(is_present))?;
+        if !is_present {
+            return Ok(None);
+        }
+        if has_default(component) {
+            let noting = Frame::Noting {
+                sequence,
+                component: index,
+                from,
+            };
+            return Ok(Some(Turn::Value(noting, component.place)));
+        }
     }
-    if has_default(component) {
-        let noting = Frame::Noting {
-            sequence,
-            component: next,
-            from,
-        };
-        return Ok(Turn::Value(noting, component.place));
+    match types.node(component.place) {
+        Some(node) if is_single(node) => {
+            read_single(alloc, decoder, types, node, component.place, tape)?;
+            Ok(None)
+        }
+        _ => {
+            let rest = Frame::Root {
+                sequence,
+                next: index + 1,
+            };
+            Ok(Some(Turn::Value(rest, component.place)))
+        }
     }
-    Ok(Turn::Value(rest, component.place))
 }
 
 // Whether a component has a default (X.680 25).
@@ -223,6 +251,7 @@ fn end_sequence<D: Decoder>(decoder: &mut D, tape: &mut Vec<Event>) -> Result<()
 
 /// Reads whether the next addition is present, or the end after the last.
 pub fn turn_added<D: Decoder>(
+    alloc: Global,
     decoder: &mut D,
     types: &Types,
     sequence: usize,
@@ -245,26 +274,34 @@ pub fn turn_added<D: Decoder>(
     let Some(lists) = lists_at(types, sequence) else {
         return Err(decoder.refuse(DecodeError::TypeNotExtensible));
     };
-    let Some(component) = lists.additions().get(next) else {
-        end_sequence(decoder, tape)?;
-        return Ok(Turn::Ended);
-    };
-    let from = tape.len();
-    if decoder.get_addition()? {
-        keep(decoder, tape, Event::Addition(true))?;
-        let inside = Frame::Inside {
-            sequence,
-            component: next,
-            from,
-        };
-        return Ok(Turn::Value(inside, component.place));
+    let additions = lists.additions();
+    for index in next..additions.len() {
+        let component = &additions[index];
+        let from = tape.len();
+        if decoder.get_addition()? {
+            keep(decoder, tape, Event::Addition(true))?;
+            match types.node(component.place) {
+                Some(node) if is_single(node) && !has_default(component) => {
+                    read_single(alloc, decoder, types, node, component.place, tape)?;
+                    decoder.end_addition()?;
+                    keep(decoder, tape, Event::AdditionEnds)?;
+                }
+                _ => {
+                    let inside = Frame::Inside {
+                        sequence,
+                        component: index,
+                        from,
+                    };
+                    return Ok(Turn::Value(inside, component.place));
+                }
+            }
+        } else {
+            if is_always_there(component) {
+                return Err(decoder.refuse(DecodeError::RequiredExtensionNotPresent));
+            }
+            keep(decoder, tape, Event::Addition(false))?;
+        }
     }
-    if is_always_there(component) {
-        return Err(decoder.refuse(DecodeError::RequiredExtensionNotPresent));
-    }
-    keep(decoder, tape, Event::Addition(false))?;
-    Ok(Turn::Again(Frame::Added {
-        sequence,
-        next: next + 1,
-    }))
+    end_sequence(decoder, tape)?;
+    Ok(Turn::Ended)
 }
