@@ -24,7 +24,7 @@ ghost use Rattle.asn1_schema_lacking_laws.specs.Carried.{CarriesMembers, Carries
 ghost use Rattle.asn1_schema_decode.specs.Answers.{Begins, is_admitted};
 ghost use Rattle.asn1_schema_errors.specs.Calls.{DecoderCall, OneLevelLess, OneLevelMore, SameLevel};
 
-use asn1_schema_constraints::{Bounded, Constraints};
+use asn1_schema_constraints::{Bounded, Constraints, NumberForm};
 use asn1_schema_errors::{CodecKind, DecodeError};
 use asn1_schema_tags::{Chosen, Enumerated, EnumerationItems, Tag, TagTables, TypeItems};
 use asn1_schema_types::AsnType;
@@ -167,6 +167,9 @@ pub trait Decoder {
         ensures only { IfErr result
             (NoRecord step too_few (asks_whole_under constraints.now I.held) self.old self.new) }
         ensures call { DecoderCall has_failed (SameLevel levels) self.old self.new result };
+
+    /// INTEGER (X.680 19) in this form.
+    fn decode_narrow(&mut self, form: &NumberForm) -> Result<i64, DecodeError>;
 
     /// ENUMERATED (X.680 20): an item of these items.
     fn decode_item_of<I: EnumerationItems>(

@@ -14,7 +14,7 @@ ghost use Rattle.asn1_schema_encode.specs.Told.{chosen_of};
 ghost use Rattle.asn1_values_bits.specs.BitStr.{bits_of};
 ghost use Rattle.asn1_schema_errors.specs.Calls.{EncoderCall};
 
-use asn1_schema_constraints::{Bounded, Constraints};
+use asn1_schema_constraints::{Bounded, Constraints, NumberForm};
 use asn1_schema_errors::{CodecKind, EncodeError};
 use asn1_schema_tags::{Chosen, Enumerated, EnumerationItems, Identifier, Tag, TypeItems};
 use asn1_schema_types::AsnType;
@@ -75,6 +75,9 @@ pub trait Encoder {
         ensures ok { OnOk result (step self.old (whole_under constraints.now I.held (I.value value.now)) self.new) }
         ensures only { IfErr result (Refused step (whole_under constraints.now I.held (I.value value.now)) self.old) }
         ensures call { EncoderCall has_failed front self.old self.new result };
+
+    /// INTEGER (X.680 19) in this form.
+    fn encode_narrow(&mut self, form: &NumberForm, value: i64) -> Result<(), EncodeError>;
 
     /// ENUMERATED (X.680 20): an item of these items, by its number and its enumeration index.
     fn encode_item_of<I: EnumerationItems>(

@@ -43,6 +43,11 @@ pub fn replay<E: Encoder>(encoder: &mut E, types: &Types, tape: &[Event]) -> Res
         }
         match &tape[next] {
             Event::Number(place, value) => {
+                if let (Some(form), Some(number)) = (types.number_form(*place), value.narrow()) {
+                    encoder.encode_narrow(form, number)?;
+                    next += 1;
+                    continue;
+                }
                 next = match types.node(*place) {
                     Some(TypeNode::Integer(limits)) => {
                         replay_numbers(encoder, limits, *place, value, tape, next + 1)?

@@ -12,7 +12,7 @@ ghost use Rattle.asn1_table_tape.specs.Records.{records_of};
 
 use crate::tape::{Event, keep};
 use crate::terms::{items_at, number_constraints, size_constraints};
-use asn1_schema_constraints::{Bounded, Constraints, Sizes};
+use asn1_schema_constraints::{Bounded, Constraints, NumberForm, Sizes};
 use asn1_schema_decode::{Decoder, ReadOctets};
 use asn1_schema_errors::DecodeError;
 use asn1_schema_tags::Tag;
@@ -81,6 +81,23 @@ pub fn read_number<D: Decoder>(
 {
     let constraints = number_constraints(limits);
     read_number_under(alloc, decoder, &constraints, place, tape)
+}
+
+/// INTEGER (X.680 19) in this form; its type is at an index.
+#[inline(always)]
+pub fn read_narrow<D: Decoder>(
+    decoder: &mut D,
+    form: &NumberForm,
+    place: usize,
+    tape: &mut Vec<Event>,
+) -> Result<(), DecodeError> {
+    let number = decoder.decode_narrow(form)?;
+    keep(
+        decoder,
+        tape,
+        Event::Number(place, Integer::from_i128(i128::from(number))),
+    )?;
+    Ok(())
 }
 
 /// INTEGER (X.680 19) under this constraint; its type is at an index.

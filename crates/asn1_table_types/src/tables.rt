@@ -14,7 +14,8 @@ use crate::faults::Refusal;
 use crate::{TableError, TypeNode};
 use asn1_schema_tags::TagTables;
 use asn1_table_nodes::has_reduced_defaults;
-use std::alloc::Global;
+use asn1_schema_constraints::NumberForm;
+use std::alloc::{AllocError, Global};
 
 /// Types, each of them lawful and with defaults in normal form, however deep it is unfolded.
 #[derive(Drop)]
@@ -22,6 +23,8 @@ pub struct Types {
     nodes: Vec<TypeNode>,
     // Of each node the tags, if it is a CHOICE.
     choices: Vec<Option<AlternativeTags>>,
+    // Of each node the form of its numbers, if it is an INTEGER with one.
+    forms: Vec<Option<NumberForm>>,
     pub ghost lawful: { AreLawful nodes.items },
     pub ghost tidy: { AreTidy nodes.items },
     pub ghost tagged: { choices.items ≡ map tags_in nodes.items },
@@ -41,7 +44,14 @@ impl Types {
     {
         check_all(alloc, nodes.as_slice())?;
         match choices_of(alloc, nodes.as_slice()) {
-            Ok(choices) => Ok(Types { nodes, choices }),
+            Ok(choices) => match forms_of(alloc, nodes.as_slice()) {
+                Ok(forms) => Ok(Types {
+                    nodes,
+                    choices,
+                    forms,
+                }),
+                Err(_) => Err(TableError::OutOfMemory),
+            },
             Err(_) => Err(TableError::OutOfMemory),
         }
     }
@@ -60,6 +70,15 @@ impl Types {
         self.nodes.get(place)
     }
 
+    /// The form of the numbers of the INTEGER at an index, if it has one.
+    #[inline(always)]
+    pub fn number_form(&self, place: usize) -> Option<&NumberForm> {
+        match self.forms.get(place) {
+            Some(Some(form)) => Some(form),
+            _ => None,
+        }
+    }
+
     /// The tags of the CHOICE at an index, as a codec takes them (X.680 29), if a CHOICE is there.
     pub fn choice_tags(&self, place: usize) -> Option<TagTables<'_>>
         ensures { result ≡ tags_at self.now.nodes.items place }
@@ -68,6 +87,29 @@ impl Types {
             Some(Some(tags)) => Some(tags.tables()),
             _ => None,
         }
+    }
+}
+
+/// The forms of the numbers of nodes.
+fn forms_of(alloc: Global, nodes: &[TypeNode]) -> Result<Vec<Option<NumberForm>>, AllocError> {
+    let mut forms = Vec::new(alloc);
+    for node in nodes {
+        forms.push(form_of(node))?;
+    }
+    Ok(forms)
+}
+
+/// The form of the numbers of a node.
+fn form_of(node: &TypeNode) -> Option<NumberForm> {
+    match node {
+        TypeNode::Integer(Some(limits)) => {
+            if limits.is_extensible {
+                None
+            } else {
+                NumberForm::of(limits.root)
+            }
+        }
+        _ => None,
     }
 }
 

@@ -12,12 +12,12 @@ ghost use Rattle.asn1_table_walker.specs.Frames.{pending_of, turn_of, levels_clo
 
 use crate::frames::{Frame, Turn};
 use crate::opening::{is_single, read_single};
-use asn1_schema_constraints::{Bounded, Constraints, Sizes};
+use asn1_schema_constraints::{Bounded, Constraints, NumberForm, Sizes};
 use asn1_schema_decode::Decoder;
 use asn1_schema_errors::DecodeError;
 use asn1_schema_tags::Tag;
 use asn1_table_tape::{
-    Event, elements_at, keep, number_constraints, read_number_under, set_count, size_constraints,
+    Event, elements_at, keep, number_constraints, read_narrow, read_number_under, set_count, size_constraints,
 };
 use asn1_table_types::{TypeNode, Types};
 use std::alloc::Global;
@@ -104,6 +104,9 @@ pub fn turn_members<D: Decoder>(
     let Some(members) = elements_at(types, list) else {
         return Err(decoder.refuse(DecodeError::TypeNotExtensible));
     };
+    if let Some(form) = types.number_form(members) {
+        return read_narrows(decoder, form, members, list, begins, count, tape);
+    }
     match types.node(members) {
         Some(TypeNode::Integer(limits)) => {
             let constraints = number_constraints(limits);
@@ -134,6 +137,28 @@ fn read_numbers<D: Decoder>(
         }
         keep(decoder, tape, Event::Further(true))?;
         read_number_under(alloc, decoder, constraints, members, tape)?;
+    }
+    Err(decoder.refuse(DecodeError::SizeConstraintNotSatisfied))
+}
+
+// Reads the rest of a list of numbers in a form.
+#[inline(never)]
+fn read_narrows<D: Decoder>(
+    decoder: &mut D,
+    form: &NumberForm,
+    members: usize,
+    list: usize,
+    begins: usize,
+    count: usize,
+    tape: &mut Vec<Event>,
+) -> Result<Turn, DecodeError> {
+    let form = *form;
+    for read in count..usize::MAX {
+        if !decoder.get_further()? {
+            return end_members(decoder, list, begins, read, tape);
+        }
+        keep(decoder, tape, Event::Further(true))?;
+        read_narrow(decoder, &form, members, tape)?;
     }
     Err(decoder.refuse(DecodeError::SizeConstraintNotSatisfied))
 }

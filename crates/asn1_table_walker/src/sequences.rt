@@ -24,7 +24,7 @@ use crate::opening::{is_single, read_single};
 use asn1_schema_decode::Decoder;
 use asn1_schema_errors::DecodeError;
 use asn1_schema_tags::Tag;
-use asn1_table_tape::{ComponentLists, Event, count_optional, is_always_there, keep, lists_at};
+use asn1_table_tape::{ComponentLists, Event, count_optional, is_always_there, keep, lists_at, read_narrow};
 use asn1_table_types::{Component, ComponentTable, Presence, Types};
 use std::alloc::Global;
 
@@ -174,6 +174,10 @@ fn turn_component<D: Decoder>(
             };
             return Ok(Some(Turn::Value(noting, component.place)));
         }
+    }
+    if let Some(form) = types.number_form(component.place) {
+        read_narrow(decoder, form, component.place, tape)?;
+        return Ok(None);
     }
     match types.node(component.place) {
         Some(node) if is_single(node) => {

@@ -122,6 +122,12 @@ impl<'a> BitStr<'a> {
         read_wide(self.octets, self.first, count)
     }
 
+    /// As `first_number`, for at most 64 bits.
+    #[inline(always)]
+    pub fn first_word(&self, count: u32) -> u64 {
+        read_bits(self.octets, self.first, count)
+    }
+
     // As `first_number`, for at most 64 bits.
     #[inline(always)]
     pub(crate) fn first_bits(&self, count: u32) -> u64

@@ -178,6 +178,22 @@ impl Integer {
         }
     }
 
+    /// The number, if an `i64` holds it.
+    #[inline(always)]
+    pub fn narrow(&self) -> Option<i64> {
+        match &self.kind {
+            IntegerKind::Primitive(value) => {
+                let short = (*value & 0xFFFF_FFFF_FFFF_FFFF) as u64 as i64;
+                if i128::from(short) == *value {
+                    Some(short)
+                } else {
+                    None
+                }
+            }
+            IntegerKind::Short(_) | IntegerKind::Long(_) => None,
+        }
+    }
+
     /// The number as a `Wide`, if it is within its range.
     pub fn to_wide(&self) -> Option<Wide>
         ensures value { IfSome result (λ w. signed_by w.negative w.magnitude ≡ self.now) }

@@ -11,7 +11,7 @@ use crate::bags::begin_bag;
 use crate::frames::Frames;
 use crate::options::EncoderOptions;
 use crate::sequences::{begin_components, begin_members, encode_presence_bit};
-use asn1_schema_constraints::{Bounded, Constraints};
+use asn1_schema_constraints::{Bounded, Constraints, NumberForm};
 use asn1_schema_encode::{begin_record, go_on};
 use asn1_schema_errors::{CodecKind, EncodeError};
 use asn1_schema_tags::{Chosen, EnumerationItems, Identifier, Tag};
@@ -20,7 +20,7 @@ use asn1_values_bits::BitStr;
 use asn1_values_identifiers::Oid;
 use asn1_values_integers::IntegerType;
 use oer_codec_writing::{
-    push_bit_string, push_boolean, push_characters, push_enumerated, push_identifier, push_integer,
+    push_bit_string, push_boolean, push_characters, push_enumerated, push_identifier, push_integer, push_narrow,
     push_octet_string, push_utf8,
 };
 use std::alloc::Global;
@@ -184,6 +184,11 @@ impl<'buffer> asn1_schema_encode::Encoder for Encoder<'buffer> {
         _identifier: Identifier,
     ) -> Result<(), EncodeError> {
         record!(self, push_integer(self.output, constraints, value))
+    }
+
+    #[inline(always)]
+    fn encode_narrow(&mut self, form: &NumberForm, value: i64) -> Result<(), EncodeError> {
+        record!(self, push_narrow(self.output, form, value))
     }
 
     fn encode_item_of<I: EnumerationItems>(

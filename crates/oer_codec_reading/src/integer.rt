@@ -13,7 +13,7 @@ ghost use Rattle.oer_codec_reading.specs.Integers.{sign_under, width_under};
 use crate::magnitudes::short_number;
 use crate::numbers::read_number;
 use crate::{Cursor, EncodingRules};
-use asn1_schema_constraints::Constraints;
+use asn1_schema_constraints::{Constraints, NumberForm};
 use asn1_schema_errors::{DecodeError, held_number, number_from_octets};
 use asn1_values_integers::IntegerType;
 use asn1_values_natives::Wide;
@@ -182,4 +182,47 @@ pub fn read_integer<I: IntegerType>(
     let (signed, width) = form_under(constraints);
     let octets = read_number(cursor, rules, signed, width)?;
     admitted_value(alloc, constraints, signed, octets)
+}
+
+/// Reads a number in this form.
+#[inline(always)]
+pub fn read_narrow(cursor: &mut Cursor<'_>, form: &NumberForm) -> Result<i64, DecodeError> {
+    let octets = cursor.take(usize::from(form.octets))?;
+    let number = match octets {
+        [a] => {
+            if form.is_signed {
+                i64::from(*a as i8)
+            } else {
+                i64::from(*a)
+            }
+        }
+        [a, b] => {
+            let whole = u16::from_be_bytes([*a, *b]);
+            if form.is_signed {
+                i64::from(whole as i16)
+            } else {
+                i64::from(whole)
+            }
+        }
+        [a, b, c, d] => {
+            let whole = u32::from_be_bytes([*a, *b, *c, *d]);
+            if form.is_signed {
+                i64::from(whole as i32)
+            } else {
+                i64::from(whole)
+            }
+        }
+        [a, b, c, d, e, f, g, h] => {
+            let whole = u64::from_be_bytes([*a, *b, *c, *d, *e, *f, *g, *h]);
+            if !form.is_signed && whole > form.high as u64 {
+                return Err(DecodeError::ValueConstraintNotSatisfied);
+            }
+            whole as i64
+        }
+        _ => return Err(DecodeError::ValueConstraintNotSatisfied),
+    };
+    if number < form.low || form.high < number {
+        return Err(DecodeError::ValueConstraintNotSatisfied);
+    }
+    Ok(number)
 }

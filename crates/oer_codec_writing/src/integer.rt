@@ -12,7 +12,7 @@ ghost use Rattle.oer_codec_writing.specs.Writing.{Adds, Refuses};
 
 use crate::digits::{natural_len, push_digits, signed_len};
 use crate::length::{push_counted, push_counted_digits};
-use asn1_schema_constraints::{Bounded, Constraints, Extensible, Value};
+use asn1_schema_constraints::{Bounded, Constraints, Extensible, NumberForm, Value};
 use asn1_schema_errors::EncodeError;
 use asn1_values_integers::IntegerType;
 
@@ -138,5 +138,20 @@ pub fn push_integer<I: IntegerType>(
         return Err(EncodeError::ValueConstraintNotSatisfied);
     }
     push_counted(octets, value.to_signed_bytes_be().as_slice())?;
+    Ok(())
+}
+
+/// Adds a number in this form.
+#[inline(always)]
+pub fn push_narrow(octets: &mut Vec<u8>, form: &NumberForm, value: i64) -> Result<(), EncodeError> {
+    if value < form.low || form.high < value {
+        return Err(EncodeError::ValueConstraintNotSatisfied);
+    }
+    match form.octets {
+        1 => octets.push(value as u8)?,
+        2 => octets.extend_from_slice(&(value as u16).to_be_bytes())?,
+        4 => octets.extend_from_slice(&(value as u32).to_be_bytes())?,
+        _ => octets.extend_from_slice(&(value as u64).to_be_bytes())?,
+    }
     Ok(())
 }

@@ -25,7 +25,7 @@ ghost use Rattle.asn1_schema_errors.specs.Calls.{DecoderCall, OneLevelLess, Same
 use crate::missing::{missing_octets_at, missing_of_string_at};
 use crate::options::DecoderOptions;
 use crate::{Additions, Enclosing, Ending, Frame, Scopes, read_members, read_preamble};
-use asn1_schema_constraints::{Bounded, Constraints, Sizes};
+use asn1_schema_constraints::{Bounded, Constraints, NumberForm, Sizes};
 use asn1_schema_decode::{Decoder as _, go_on};
 use asn1_schema_errors::{CodecKind, DecodeError};
 use asn1_schema_tags::{Chosen, EnumerationItems, Tag, TagTables};
@@ -38,7 +38,7 @@ use per_codec_reading::boolean::{read_boolean, read_null};
 use per_codec_reading::completion::{read_completion, read_to_end};
 use per_codec_reading::{PackedRules, read_bit_string, read_object_identifier, read_utf8_string};
 use per_codec_reading_values::{
-    Stretch, read_alternative_index, read_bitmap, read_characters, read_integer, read_item,
+    Stretch, read_alternative_index, read_bitmap, read_characters, read_integer, read_item, read_narrow,
     skip_unknown,
 };
 use std::alloc::Global;
@@ -494,6 +494,11 @@ impl<'input> asn1_schema_decode::Decoder for Decoder<'input> {
             cursor,
             read_integer(alloc, &mut cursor, self.rules, constraints)
         )
+    }
+
+    #[inline(always)]
+    fn decode_narrow(&mut self, form: &NumberForm) -> Result<i64, DecodeError> {
+        record!(self, cursor, read_narrow(&mut cursor, self.rules, form))
     }
 
     fn decode_item_of<I: EnumerationItems>(

@@ -17,7 +17,7 @@ use crate::frames::Frames;
 use crate::members::begin_members;
 use crate::options::EncoderOptions;
 use crate::sequences::begin_components;
-use asn1_schema_constraints::{Bounded, Constraints};
+use asn1_schema_constraints::{Bounded, Constraints, NumberForm};
 use asn1_schema_encode::{begin_record, go_on};
 use asn1_schema_errors::{CodecKind, EncodeError};
 use asn1_schema_tags::{Chosen, EnumerationItems, Identifier, Tag};
@@ -28,7 +28,7 @@ use asn1_values_integers::IntegerType;
 use per_codec_packing::Packing;
 use per_codec_rules::Variant;
 use per_codec_writing::{
-    push_bit_string, push_boolean, push_characters, push_enumerated, push_identifier, push_integer,
+    push_bit_string, push_boolean, push_characters, push_enumerated, push_identifier, push_integer, push_narrow,
     push_octet_string, push_utf8,
 };
 use std::alloc::Global;
@@ -201,6 +201,11 @@ impl asn1_schema_encode::Encoder for Encoder {
             self,
             push_integer(&mut self.output, self.variant, constraints, value)
         )
+    }
+
+    #[inline(always)]
+    fn encode_narrow(&mut self, form: &NumberForm, value: i64) -> Result<(), EncodeError> {
+        record!(self, push_narrow(&mut self.output, self.variant, form, value))
     }
 
     fn encode_item_of<I: EnumerationItems>(

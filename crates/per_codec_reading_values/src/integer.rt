@@ -10,7 +10,8 @@ ghost use Rattle.per_codec_reading.specs.Fronts.{freedoms, Misses};
 
 use crate::bounded::read_bounded;
 use crate::number_octets::read_number_octets;
-use asn1_schema_constraints::Constraints;
+use asn1_schema_constraints::{Constraints, NumberForm};
+use per_codec_reading::numbers::read_constrained;
 use asn1_schema_errors::{DecodeError, held_number, number_from_octets};
 use asn1_values_integers::IntegerType;
 use per_codec_reading::{Cursor, PackedRules};
@@ -45,4 +46,31 @@ pub fn read_integer<I: IntegerType>(
     };
     let number = read_bounded(alloc, cursor, rules, constraint)?;
     held_number(number)
+}
+
+/// Reads a number in this form.
+#[inline(always)]
+pub fn read_narrow(
+    cursor: &mut Cursor<'_>,
+    rules: PackedRules,
+    form: &NumberForm,
+) -> Result<i64, DecodeError> {
+    if rules.is_aligned() && form.span >= 255 {
+        return read_narrow_aligned(cursor, rules, form);
+    }
+    let bits = cursor.take(usize::from(form.bits))?;
+    let number = bits.first_word(u32::from(form.bits));
+    if number > form.span {
+        return Err(DecodeError::ValueConstraintNotSatisfied);
+    }
+    Ok(form.low.wrapping_add(number as i64))
+}
+
+fn read_narrow_aligned(
+    cursor: &mut Cursor<'_>,
+    rules: PackedRules,
+    form: &NumberForm,
+) -> Result<i64, DecodeError> {
+    let number = read_constrained(cursor, rules, u128::from(form.span))?;
+    Ok(form.low.wrapping_add(number as i64))
 }

@@ -22,7 +22,7 @@ pub use codes::string_of;
 pub use enumerated::read_item;
 pub use fields::Field;
 pub use indexes::read_alternative_index;
-pub use integer::read_integer;
+pub use integer::{read_integer, read_narrow};
 pub use open_type::skip_unknown;
 pub use small::read_normally_small;
 pub use stretch::Stretch;

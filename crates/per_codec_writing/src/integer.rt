@@ -12,7 +12,7 @@ ghost use Rattle.per_codec_writing.specs.Writing.{Adds, Refuses, place};
 ghost use Rattle.per_codec_rules.specs.Variants.{is_aligned};
 
 use crate::{push_constrained, push_counted_octets};
-use asn1_schema_constraints::{Bounded, Constraints};
+use asn1_schema_constraints::{Bounded, Constraints, NumberForm};
 use asn1_schema_errors::EncodeError;
 use asn1_values_integers::IntegerType;
 use per_codec_packing::Packing;
@@ -152,4 +152,23 @@ pub fn push_integer<I: IntegerType>(
         limits.extensible.is_some(),
         number,
     )
+}
+
+/// Adds a number in this form.
+#[inline(always)]
+pub fn push_narrow(
+    output: &mut Packing,
+    variant: Variant,
+    form: &NumberForm,
+    value: i64,
+) -> Result<(), EncodeError> {
+    if value < form.low || form.high < value {
+        return Err(EncodeError::ValueConstraintNotSatisfied);
+    }
+    let offset = value.wrapping_sub(form.low) as u64;
+    if variant.is_aligned() && form.span >= 255 {
+        return push_constrained(output, variant, u128::from(form.span), u128::from(offset));
+    }
+    output.push_bits(u128::from(offset), u32::from(form.bits))?;
+    Ok(())
 }
