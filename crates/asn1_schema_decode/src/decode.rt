@@ -2,19 +2,21 @@
 ghost use Rattle.std.specs.Prelude.{◌≡◌, ◌+◌, ◌<◌, true, ⊤, ℕ, List, length};
 ghost use Rattle.std.specs.Prelude.{IfOk, OnOk, OnErr, IfErr, cond, string_bytes};
 ghost use Rattle.std.specs.Cow.{IsBorrowedSlice, cow_slice_items};
-ghost use Rattle.asn1_model.specs.Schema.{Size, Counts, utf8};
+ghost use Rattle.asn1_model.specs.Schema.{Size, Counts, utf8, wide_range};
 ghost use Rattle.asn1_model.specs.Numbers.{is_count_within};
 ghost use Rattle.asn1_schema_errors.specs.declared.CodecKind.{CodecKind};
-ghost use Rattle.asn1_schema_laws.specs.Records.{Record, question, told, flag, nil, one_of, identifier};
+ghost use Rattle.asn1_schema_laws.specs.Records.{Record, question, told, flag, nil, whole, one_of, identifier};
 ghost use Rattle.asn1_schema_laws.specs.Records.{list_begins, bag_begins, further, sequence_begins, set_begins};
 ghost use Rattle.asn1_schema_laws.specs.Records.{group_begins, presence_bit, is_default, is_empty};
 ghost use Rattle.asn1_schema_laws.specs.Records.{additions_begin, addition, addition_ends, choice_begins, ends};
-ghost use Rattle.asn1_schema_laws.specs.Records.{asks_flag, asks_nil, asks_one_of, asks_identifier, asks_further};
+ghost use Rattle.asn1_schema_laws.specs.Records.{asks_flag, asks_nil, asks_whole, asks_one_of, asks_identifier};
+ghost use Rattle.asn1_schema_laws.specs.Records.{asks_further};
 ghost use Rattle.asn1_schema_laws.specs.Records.{asks_sequence, asks_set, asks_group, asks_presence_bit};
 ghost use Rattle.asn1_schema_laws.specs.Records.{asks_default, asks_empty, asks_additions, asks_addition};
 ghost use Rattle.asn1_schema_laws.specs.Records.{asks_addition_end, asks_choice, asks_end};
 ghost use Rattle.asn1_schema_constraints.specs.Bounds.{counts_of};
 ghost use Rattle.asn1_schema_constraints.specs.Terms.{meant};
+ghost use Rattle.asn1_schema_forms.specs.Forms.{form_bounds};
 ghost use Rattle.asn1_schema_types.specs.Told.{whole_under, bits_under, octets_under, characters_under};
 ghost use Rattle.asn1_schema_types.specs.Told.{asks_whole_under, asks_bits_under, asks_octets_under};
 ghost use Rattle.asn1_schema_types.specs.Told.{asks_characters_under, list_begins_under, bag_begins_under};
@@ -26,6 +28,7 @@ ghost use Rattle.asn1_schema_errors.specs.Calls.{DecoderCall, OneLevelLess, OneL
 
 use asn1_schema_constraints::{Bounded, Constraints};
 use asn1_schema_errors::{CodecKind, DecodeError};
+use asn1_schema_forms::NumberForm;
 use asn1_schema_tags::{Chosen, Enumerated, EnumerationItems, Tag, TagTables, TypeItems};
 use asn1_schema_types::AsnType;
 use asn1_values_alphabets::StaticPermittedAlphabet;
@@ -167,6 +170,17 @@ pub trait Decoder {
         ensures only { IfErr result
             (NoRecord step too_few (asks_whole_under constraints.now I.held) self.old self.new) }
         ensures call { DecoderCall has_failed (SameLevel levels) self.old self.new result };
+
+    /// INTEGER (X.680 19) between two bounds, in its form.
+    fn decode_number(&mut self, alloc: Global, form: &NumberForm) -> Result<i128, DecodeError>
+        ensures ok { IfOk result (λ x. step self.old (whole (form_bounds form.now) wide_range x) self.new) }
+        ensures only { IfErr result
+            (NoRecord step too_few (asks_whole (form_bounds form.now) wide_range) self.old self.new) }
+        ensures call { DecoderCall has_failed (SameLevel levels) self.old self.new result }
+    {
+        let number: i128 = self.decode_integer(alloc, Tag::INTEGER, &form.constraints())?;
+        Ok(number)
+    }
 
     /// ENUMERATED (X.680 20): an item of these items.
     fn decode_item_of<I: EnumerationItems>(

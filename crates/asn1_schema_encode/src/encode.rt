@@ -1,12 +1,14 @@
 //! The traits `Encoder` and `Encode`.
 ghost use Rattle.std.specs.Prelude.{◌≡◌, ℕ, List, OnOk, OnErr, IfErr};
-ghost use Rattle.asn1_model.specs.Schema.{utf8};
+ghost use Rattle.asn1_model.specs.Schema.{utf8, wide_range};
 ghost use Rattle.asn1_schema_errors.specs.declared.CodecKind.{CodecKind};
-ghost use Rattle.asn1_schema_laws.specs.Records.{Record, flag, nil, one_of, identifier as object_identifier};
+ghost use Rattle.asn1_schema_laws.specs.Records.{Record, flag, nil, whole, one_of};
+ghost use Rattle.asn1_schema_laws.specs.Records.{identifier as object_identifier};
 ghost use Rattle.asn1_schema_laws.specs.Records.{further};
 ghost use Rattle.asn1_schema_laws.specs.Records.{sequence_begins, set_begins, group_begins, presence_bit};
 ghost use Rattle.asn1_schema_laws.specs.Records.{additions_begin, addition, addition_ends, ends};
 ghost use Rattle.asn1_schema_constraints.specs.Terms.{meant};
+ghost use Rattle.asn1_schema_forms.specs.Forms.{form_bounds};
 ghost use Rattle.asn1_schema_types.specs.Told.{whole_under, bits_under, octets_under, characters_under};
 ghost use Rattle.asn1_schema_types.specs.Told.{list_begins_under, bag_begins_under};
 ghost use Rattle.asn1_schema_encode.specs.Writes.{Refused, Writes, CannotWrite};
@@ -16,6 +18,7 @@ ghost use Rattle.asn1_schema_errors.specs.Calls.{EncoderCall};
 
 use asn1_schema_constraints::{Bounded, Constraints};
 use asn1_schema_errors::{CodecKind, EncodeError};
+use asn1_schema_forms::NumberForm;
 use asn1_schema_tags::{Chosen, Enumerated, EnumerationItems, Identifier, Tag, TypeItems};
 use asn1_schema_types::AsnType;
 use asn1_values_alphabets::StaticPermittedAlphabet;
@@ -75,6 +78,15 @@ pub trait Encoder {
         ensures ok { OnOk result (step self.old (whole_under constraints.now I.held (I.value value.now)) self.new) }
         ensures only { IfErr result (Refused step (whole_under constraints.now I.held (I.value value.now)) self.old) }
         ensures call { EncoderCall has_failed front self.old self.new result };
+
+    /// INTEGER (X.680 19) between two bounds, in its form.
+    fn encode_number(&mut self, form: &NumberForm, number: i128) -> Result<(), EncodeError>
+        ensures ok { OnOk result (step self.old (whole (form_bounds form.now) wide_range number) self.new) }
+        ensures only { IfErr result (Refused step (whole (form_bounds form.now) wide_range number) self.old) }
+        ensures call { EncoderCall has_failed front self.old self.new result }
+    {
+        self.encode_integer(Tag::INTEGER, &form.constraints(), &number, Identifier::INTEGER)
+    }
 
     /// ENUMERATED (X.680 20): an item of these items, by its number and its enumeration index.
     fn encode_item_of<I: EnumerationItems>(

@@ -83,7 +83,27 @@ fn replay_one<E: Encoder>(encoder: &mut E, types: &Types, event: &Event) -> Resu
 }
 
 // A number of the type at this index.
+#[inline(always)]
 fn replay_number<E: Encoder>(
+    encoder: &mut E,
+    types: &Types,
+    place: usize,
+    value: &Integer,
+) -> Result<(), EncodeError>
+    ensures ok { OnOk result
+        (E.step encoder.old (number_record (slice_get types.now.nodes.items place) value.now) encoder.new) }
+    ensures only { IfErr result
+        (Refused E.step (number_record (slice_get types.now.nodes.items place) value.now) encoder.old) }
+    ensures call { EncoderCall E.has_failed E.front encoder.old encoder.new result }
+{
+    if let (Some(form), Some(number)) = (types.number_form(place), value.to_i128()) {
+        return encoder.encode_number(form, number);
+    }
+    replay_any_number(encoder, types, place, value)
+}
+
+// The same without a form.
+fn replay_any_number<E: Encoder>(
     encoder: &mut E,
     types: &Types,
     place: usize,

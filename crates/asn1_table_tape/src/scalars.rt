@@ -15,6 +15,7 @@ use crate::terms::{items_at, number_constraints, size_constraints};
 use asn1_schema_constraints::{Bounded, Sizes};
 use asn1_schema_decode::{Decoder, ReadOctets};
 use asn1_schema_errors::DecodeError;
+use asn1_schema_forms::NumberForm;
 use asn1_schema_tags::Tag;
 use asn1_table_types::{ItemTable, NumberLimits, Types};
 use asn1_values_integers::Integer;
@@ -82,6 +83,28 @@ pub fn read_number<D: Decoder>(
     let constraints = number_constraints(limits);
     let number: Integer = decoder.decode_integer(alloc, Tag::INTEGER, &constraints)?;
     keep(decoder, tape, Event::Number(place, number))?;
+    Ok(())
+}
+
+/// INTEGER (X.680 19) in this form; its type is at an index.
+#[inline(always)]
+pub fn read_in_form<D: Decoder>(
+    alloc: Global,
+    decoder: &mut D,
+    form: &NumberForm,
+    place: usize,
+    tape: &mut Vec<Event>,
+) -> Result<(), DecodeError>
+    ensures ok { OnOk result ((ns : List Node) → IsFormOf (slice_get ns place) form.now
+        → Told D.step (type_of ns (D.levels decoder.old) (slice_get ns place)) decoder.old decoder.new
+        (records_of ns tape.old.items) (records_of ns tape.new.items)) }
+    ensures only { IfErr result (λ x. (ns : List Node) → IsFormOf (slice_get ns place) form.now
+        → NoValue D.step D.too_few (type_of ns (D.levels decoder.old) (slice_get ns place)) decoder.old decoder.new x) }
+    ensures going { OnOk result (D.has_failed decoder.new → ⊥) }
+    ensures call { DecoderCall D.has_failed (SameLevel D.levels) decoder.old decoder.new result }
+{
+    let number = decoder.decode_number(alloc, form)?;
+    keep(decoder, tape, Event::Number(place, Integer::from_i128(number)))?;
     Ok(())
 }
 

@@ -6,6 +6,7 @@ mod choice_tags;
 mod choices;
 mod components;
 mod faults;
+mod forms;
 mod groups;
 mod items;
 mod tables;

@@ -12,6 +12,8 @@ use crate::checks::{check_defaults, check_node};
 use crate::choice_tags::{AlternativeTags, choices_of};
 use crate::faults::Refusal;
 use crate::{TableError, TypeNode};
+use crate::forms::forms_of;
+use asn1_schema_forms::NumberForm;
 use asn1_schema_tags::TagTables;
 use asn1_table_nodes::has_reduced_defaults;
 use std::alloc::Global;
@@ -22,6 +24,8 @@ pub struct Types {
     nodes: Vec<TypeNode>,
     // Of each node the tags, if it is a CHOICE.
     choices: Vec<Option<AlternativeTags>>,
+    // Of each node the form of its numbers, if it is an INTEGER with one.
+    forms: Vec<Option<NumberForm>>,
     pub ghost lawful: { AreLawful nodes.items },
     pub ghost tidy: { AreTidy nodes.items },
     pub ghost tagged: { choices.items ≡ map tags_in nodes.items },
@@ -41,7 +45,14 @@ impl Types {
     {
         check_all(alloc, nodes.as_slice())?;
         match choices_of(alloc, nodes.as_slice()) {
-            Ok(choices) => Ok(Types { nodes, choices }),
+            Ok(choices) => match forms_of(alloc, nodes.as_slice()) {
+                Ok(forms) => Ok(Types {
+                    nodes,
+                    choices,
+                    forms,
+                }),
+                Err(_) => Err(TableError::OutOfMemory),
+            },
             Err(_) => Err(TableError::OutOfMemory),
         }
     }
@@ -58,6 +69,17 @@ impl Types {
         ensures { option_copied result ≡ slice_get self.now.nodes.items place }
     {
         self.nodes.get(place)
+    }
+
+    /// The form of the numbers of the INTEGER at an index, if it has one.
+    #[inline(always)]
+    pub fn number_form(&self, place: usize) -> Option<&NumberForm>
+        ensures { IfSome result (λ form. IsFormOf (slice_get self.now.nodes.items place) form.now) }
+    {
+        match self.forms.get(place) {
+            Some(Some(form)) => Some(form),
+            _ => None,
+        }
     }
 
     /// The tags of the CHOICE at an index, as a codec takes them (X.680 29), if a CHOICE is there.

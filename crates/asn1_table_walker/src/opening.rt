@@ -16,8 +16,8 @@ use asn1_schema_decode::Decoder;
 use asn1_schema_errors::DecodeError;
 use asn1_schema_tags::Tag;
 use asn1_table_tape::{
-    Event, read_arcs, read_bits, read_flag, read_item, read_nil, read_number, read_octets,
-    read_text,
+    Event, read_arcs, read_bits, read_flag, read_in_form, read_item, read_nil, read_number,
+    read_octets, read_text,
 };
 use asn1_table_types::{TypeNode, Types};
 use std::alloc::Global;
@@ -41,6 +41,10 @@ pub fn open<D: Decoder>(
     ensures going { OnOk result (D.has_failed decoder.new → ⊥) }
     ensures call { DecoderCall D.has_failed (λ _ _. ⊤) decoder.old decoder.new result }
 {
+    if let Some(form) = types.number_form(place) {
+        read_in_form(alloc, decoder, form, place, tape)?;
+        return Ok(None);
+    }
     match types.node(place) {
         None => Err(refuse_any(decoder)),
         Some(TypeNode::SequenceOf(sizes, _members)) => {

@@ -23,6 +23,7 @@ use crate::scopes::Scopes;
 use asn1_schema_constraints::{Bounded, Constraints};
 use asn1_schema_decode::{Decoder as _, go_on};
 use asn1_schema_errors::{CodecKind, DecodeError};
+use asn1_schema_forms::NumberForm;
 use asn1_schema_tags::{Chosen, EnumerationItems, Tag, TagTables};
 use asn1_values_alphabets::StaticPermittedAlphabet;
 use asn1_values_bit_strings::BitString;
@@ -30,7 +31,7 @@ use asn1_values_identifiers::ObjectIdentifier;
 use asn1_values_integers::IntegerType;
 use oer_codec_reading::bit_string::read_bit_string;
 use oer_codec_reading::boolean::{read_boolean, read_null};
-use oer_codec_reading::integer::read_integer;
+use oer_codec_reading::integer::{read_in_form, read_integer};
 use oer_codec_reading::object_identifier::read_object_identifier;
 use oer_codec_reading::octet_string::read_octet_string;
 use oer_codec_reading::{
@@ -370,6 +371,15 @@ impl<'input> asn1_schema_decode::Decoder for Decoder<'input> {
             self,
             size_of_number(constraints),
             read_integer(alloc, &mut self.cursor, self.rules, constraints)
+        )
+    }
+
+    #[inline(always)]
+    fn decode_number(&mut self, _alloc: Global, form: &NumberForm) -> Result<i128, DecodeError> {
+        string!(
+            self,
+            Some(usize::from(form.octets())),
+            read_in_form(&mut self.cursor, self.rules, form)
         )
     }
 

@@ -14,14 +14,15 @@ use crate::sequences::{begin_components, begin_members, encode_presence_bit};
 use asn1_schema_constraints::{Bounded, Constraints};
 use asn1_schema_encode::{begin_record, go_on};
 use asn1_schema_errors::{CodecKind, EncodeError};
+use asn1_schema_forms::NumberForm;
 use asn1_schema_tags::{Chosen, EnumerationItems, Identifier, Tag};
 use asn1_values_alphabets::StaticPermittedAlphabet;
 use asn1_values_bits::BitStr;
 use asn1_values_identifiers::Oid;
 use asn1_values_integers::IntegerType;
 use oer_codec_writing::{
-    push_bit_string, push_boolean, push_characters, push_enumerated, push_identifier, push_integer,
-    push_octet_string, push_utf8,
+    push_bit_string, push_boolean, push_characters, push_enumerated, push_identifier, push_in_form,
+    push_integer, push_octet_string, push_utf8,
 };
 use std::alloc::Global;
 use std::marker::Model;
@@ -184,6 +185,11 @@ impl<'buffer> asn1_schema_encode::Encoder for Encoder<'buffer> {
         _identifier: Identifier,
     ) -> Result<(), EncodeError> {
         record!(self, push_integer(self.output, constraints, value))
+    }
+
+    #[inline(always)]
+    fn encode_number(&mut self, form: &NumberForm, number: i128) -> Result<(), EncodeError> {
+        record!(self, push_in_form(self.output, form, number))
     }
 
     fn encode_item_of<I: EnumerationItems>(

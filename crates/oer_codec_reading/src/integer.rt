@@ -6,15 +6,17 @@ ghost use Rattle.asn1_model.specs.Numbers.{is_within};
 ghost use Rattle.asn1_model.specs.Schema as Asn1;
 ghost use Rattle.asn1_model.specs.Value as Asn1Value;
 ghost use Rattle.asn1_schema_constraints.specs.Terms.{admits_whole, bounds_of, held_of};
+ghost use Rattle.asn1_schema_forms.specs.Forms.{form_bounds};
 ghost use Rattle.asn1_values_natives.specs.Octets.{own_number};
 ghost use Rattle.oer_codec_reading.specs.Fronts.{freedoms, FrontOf, NoFront};
 ghost use Rattle.oer_codec_reading.specs.Integers.{sign_under, width_under};
 
-use crate::magnitudes::short_number;
+use crate::magnitudes::{fixed_number, short_number};
 use crate::numbers::read_number;
 use crate::{Cursor, EncodingRules};
 use asn1_schema_constraints::Constraints;
 use asn1_schema_errors::{DecodeError, held_number, number_from_octets};
+use asn1_schema_forms::NumberForm;
 use asn1_values_integers::IntegerType;
 use asn1_values_natives::Wide;
 use std::alloc::Global;
@@ -182,4 +184,28 @@ pub fn read_integer<I: IntegerType>(
     let (signed, width) = form_under(constraints);
     let octets = read_number(cursor, rules, signed, width)?;
     admitted_value(alloc, constraints, signed, octets)
+}
+
+/// Reads an INTEGER (X.696 10) between two bounds, in its form.
+///
+/// # Errors
+///
+/// `Incomplete` if the octets end early, and `ValueConstraintNotSatisfied` if the number is not between the bounds.
+#[inline(always)]
+pub fn read_in_form(
+    cursor: &mut Cursor<'_>,
+    rules: EncodingRules,
+    form: &NumberForm,
+) -> Result<i128, DecodeError>
+    ensures ok { IfOk result (λ x. FrontOf (freedoms rules) (Asn1.integer (form_bounds form.now) wide_range)
+        (Asn1Value.number x) cursor.old cursor.new) }
+    ensures only { IfErr result (NoFront (freedoms rules) (Asn1.integer (form_bounds form.now) wide_range)
+        cursor.old) }
+{
+    let octets = read_number(cursor, rules, form.is_signed(), Some(usize::from(form.octets())))?;
+    let number = fixed_number(form.is_signed(), octets);
+    if number < form.low() || form.high() < number {
+        return Err(DecodeError::ValueConstraintNotSatisfied);
+    }
+    Ok(number)
 }

@@ -41,3 +41,20 @@ pub fn short_number(signed: bool, octets: &[u8]) -> i128
     }
     number_by(false, short_magnitude(false, octets))
 }
+
+/// The same for the numbers of octets that an INTEGER has between two bounds (X.696 10).
+#[inline(always)]
+pub fn fixed_number(signed: bool, octets: &[u8]) -> i128
+    requires { length octets.now ≤ 8 }
+    ensures { result ≡ own_number signed octets.now }
+{
+    match octets {
+        [a] if signed => i128::from(i8::from_be_bytes([*a])),
+        [a] => i128::from(*a),
+        [a, b] if signed => i128::from(i16::from_be_bytes([*a, *b])),
+        [a, b] => i128::from(u16::from_be_bytes([*a, *b])),
+        [a, b, c, d] if signed => i128::from(i32::from_be_bytes([*a, *b, *c, *d])),
+        [a, b, c, d] => i128::from(u32::from_be_bytes([*a, *b, *c, *d])),
+        _ => short_number(signed, octets),
+    }
+}

@@ -3,10 +3,11 @@ ghost use Rattle.std.specs.Prelude.{◌≡◌, ◌≤◌, false, true, MatchResu
 ghost use Rattle.asn1_model.specs.Form.{written};
 ghost use Rattle.asn1_model.specs.Numbers.{is_within, signed_octets};
 ghost use Rattle.asn1_model.specs.Oer.{bounded, integer_form, natural_form, signed_form};
-ghost use Rattle.asn1_model.specs.Schema.{Range};
+ghost use Rattle.asn1_model.specs.Schema.{Range, wide_range};
 ghost use Rattle.asn1_model.specs.Versions.{Begins};
 ghost use Rattle.asn1_schema_constraints.specs.Bounds.{admits_number, lower, upper};
 ghost use Rattle.asn1_schema_constraints.specs.Terms.{bounds_of, held_of};
+ghost use Rattle.asn1_schema_forms.specs.Forms.{form_bounds};
 ghost use Rattle.asn1_values_natives.specs.Octets.{is_below_zero};
 ghost use Rattle.oer_codec_writing.specs.Writing.{Adds, Refuses};
 
@@ -14,6 +15,7 @@ use crate::digits::{natural_len, push_digits, signed_len};
 use crate::length::{push_counted, push_counted_digits};
 use asn1_schema_constraints::{Bounded, Constraints, Extensible, Value};
 use asn1_schema_errors::EncodeError;
+use asn1_schema_forms::NumberForm;
 use asn1_values_integers::IntegerType;
 
 /// Adds a signed number, in `width` octets, or in its fewest after a length determinant (X.696 10).
@@ -138,5 +140,28 @@ pub fn push_integer<I: IntegerType>(
         return Err(EncodeError::ValueConstraintNotSatisfied);
     }
     push_counted(octets, value.to_signed_bytes_be().as_slice())?;
+    Ok(())
+}
+
+/// Adds an INTEGER (X.696 10) between two bounds, in its form.
+///
+/// # Errors
+///
+/// `ValueConstraintNotSatisfied` if the number is not between the bounds, and `OutOfMemory`.
+#[inline(always)]
+pub fn push_in_form(
+    octets: &mut Vec<u8>,
+    form: &NumberForm,
+    number: i128,
+) -> Result<(), EncodeError>
+    ensures text { MatchResult result (λ _. Adds
+        (written (integer_form (form_bounds form.now) wide_range number) 0) octets.old.items octets.new.items)
+        (Refuses (written (integer_form (form_bounds form.now) wide_range number) 0)) }
+    ensures kept { OnErr result (Begins octets.old.items octets.new.items) }
+{
+    if number < form.low() || form.high() < number {
+        return Err(EncodeError::ValueConstraintNotSatisfied);
+    }
+    push_digits(octets, number.cast_unsigned(), usize::from(form.octets()))?;
     Ok(())
 }

@@ -18,7 +18,7 @@ pub use bit_string::{push_bit_string, push_bits_heading};
 pub use boolean::push_boolean;
 pub use character_string::{push_characters, push_utf8};
 pub use enumerated::push_enumerated;
-pub use integer::push_integer;
+pub use integer::{push_in_form, push_integer};
 pub use item_numbers::push_item;
 pub use length::{push_count, push_counted, short_length};
 pub use object_identifier::push_identifier;

@@ -28,6 +28,7 @@ use crate::{Additions, Enclosing, Ending, Frame, Scopes, read_members, read_prea
 use asn1_schema_constraints::{Bounded, Constraints, Sizes};
 use asn1_schema_decode::{Decoder as _, go_on};
 use asn1_schema_errors::{CodecKind, DecodeError};
+use asn1_schema_forms::NumberForm;
 use asn1_schema_tags::{Chosen, EnumerationItems, Tag, TagTables};
 use asn1_values_alphabets::StaticPermittedAlphabet;
 use asn1_values_bit_strings::BitString;
@@ -38,8 +39,8 @@ use per_codec_reading::boolean::{read_boolean, read_null};
 use per_codec_reading::completion::{read_completion, read_to_end};
 use per_codec_reading::{PackedRules, read_bit_string, read_object_identifier, read_utf8_string};
 use per_codec_reading_values::{
-    Stretch, read_alternative_index, read_bitmap, read_characters, read_integer, read_item,
-    skip_unknown,
+    Stretch, read_alternative_index, read_bitmap, read_characters, read_in_form,
+    read_integer, read_item, skip_unknown,
 };
 use std::alloc::Global;
 use std::borrow::CowSlice;
@@ -494,6 +495,11 @@ impl<'input> asn1_schema_decode::Decoder for Decoder<'input> {
             cursor,
             read_integer(alloc, &mut cursor, self.rules, constraints)
         )
+    }
+
+    #[inline(always)]
+    fn decode_number(&mut self, _alloc: Global, form: &NumberForm) -> Result<i128, DecodeError> {
+        record!(self, cursor, read_in_form(&mut cursor, self.rules, form))
     }
 
     fn decode_item_of<I: EnumerationItems>(

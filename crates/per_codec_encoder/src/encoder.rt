@@ -20,6 +20,7 @@ use crate::sequences::begin_components;
 use asn1_schema_constraints::{Bounded, Constraints};
 use asn1_schema_encode::{begin_record, go_on};
 use asn1_schema_errors::{CodecKind, EncodeError};
+use asn1_schema_forms::NumberForm;
 use asn1_schema_tags::{Chosen, EnumerationItems, Identifier, Tag};
 use asn1_values_alphabets::StaticPermittedAlphabet;
 use asn1_values_bits::{BitBuffer, BitStr};
@@ -28,8 +29,8 @@ use asn1_values_integers::IntegerType;
 use per_codec_packing::Packing;
 use per_codec_rules::Variant;
 use per_codec_writing::{
-    push_bit_string, push_boolean, push_characters, push_enumerated, push_identifier, push_integer,
-    push_octet_string, push_utf8,
+    push_bit_string, push_boolean, push_characters, push_enumerated, push_identifier, push_in_form,
+    push_integer, push_octet_string, push_utf8,
 };
 use std::alloc::Global;
 use std::marker::Model;
@@ -200,6 +201,14 @@ impl asn1_schema_encode::Encoder for Encoder {
         record!(
             self,
             push_integer(&mut self.output, self.variant, constraints, value)
+        )
+    }
+
+    #[inline(always)]
+    fn encode_number(&mut self, form: &NumberForm, number: i128) -> Result<(), EncodeError> {
+        record!(
+            self,
+            push_in_form(&mut self.output, self.variant, form, number)
         )
     }
 

@@ -1,7 +1,7 @@
 //! Numbers under bounds (X.691 13.1 and 13.2).
 ghost use Rattle.asn1_model.specs.Schema.{wide_range};
-ghost use Rattle.std.specs.Prelude.{◌≡◌, ◌+ℤ◌, pos, true, false, Some, None, IfOk, OnOk, IfErr, OnErr};
-ghost use Rattle.asn1_model.specs.Numbers.{is_within};
+ghost use Rattle.std.specs.Prelude.{◌≡◌, ◌≤◌, ◌+ℤ◌, pos, true, false, Some, None, IfOk, OnOk, IfErr, OnErr};
+ghost use Rattle.asn1_model.specs.Numbers.{is_within, width};
 ghost use Rattle.asn1_model.specs.Per as Per;
 ghost use Rattle.asn1_schema_constraints.specs.Bounds.{lower, range_of, upper};
 ghost use Rattle.per_codec_laws.specs.Takes.{Front};
@@ -13,8 +13,9 @@ ghost use Rattle.per_codec_reading_values.specs.Integers.{behind_extension_bit, 
 use crate::number_octets::{read_semi_constrained, read_unconstrained};
 use asn1_schema_constraints::{Bounded, Extensible, Value};
 use asn1_schema_errors::DecodeError;
+use asn1_schema_forms::NumberForm;
 use per_codec_reading::boolean::read_bit;
-use per_codec_reading::numbers::read_constrained;
+use per_codec_reading::numbers::{read_constrained, read_number_within};
 use per_codec_reading::{Cursor, PackedRules};
 use std::alloc::Global;
 
@@ -194,4 +195,52 @@ pub fn read_bounded(
         return Err(DecodeError::NotValidCanonicalEncoding);
     }
     Ok(number)
+}
+
+/// Reads a constrained whole number of 0 to `span`, which has this number of bits (X.691 11.5).
+///
+/// # Errors
+///
+/// Those of [`read_constrained`].
+#[inline(always)]
+fn read_offset(
+    cursor: &mut Cursor<'_>,
+    rules: PackedRules,
+    span: u64,
+    bits: u8,
+) -> Result<u64, DecodeError>
+    requires { bits ≡ width span }
+    ensures ok { IfOk result (λ number. Front (freedoms rules)
+        (Per.constrained (fronts.is_aligned rules) span number) cursor.old cursor.new) }
+    ensures bound { IfOk result (λ number. number ≤ span) }
+    ensures only { IfErr result (Misses (freedoms rules)
+        (Per.constrained (fronts.is_aligned rules) span) cursor.old) }
+{
+    if bits > 64 || rules.is_aligned() && span >= 255 {
+        let number = read_constrained(cursor, rules, u128::from(span))?;
+        return Ok(number as u64);
+    }
+    let number = read_number_within(cursor, rules, usize::from(bits), u128::from(span))?;
+    Ok(number as u64)
+}
+
+/// Reads a number between two bounds, in its form (X.691 13.2.1 and 13.2.2).
+///
+/// # Errors
+///
+/// `ValueConstraintNotSatisfied` if it is not between them, and the errors of a constrained whole number.
+#[inline(always)]
+pub fn read_in_form(
+    cursor: &mut Cursor<'_>,
+    rules: PackedRules,
+    form: &NumberForm,
+) -> Result<i128, DecodeError>
+    ensures ok { IfOk result (λ number. Front (freedoms rules)
+        (in_128_bits (Per.whole_number (fronts.is_aligned rules) (Some form.now.low) (Some form.now.high)) number) cursor.old
+        cursor.new) }
+    ensures only { IfErr result (Misses (freedoms rules)
+        (in_128_bits (Per.whole_number (fronts.is_aligned rules) (Some form.now.low) (Some form.now.high))) cursor.old) }
+{
+    let above = read_offset(cursor, rules, form.span(), form.bits())?;
+    Ok(form.low() + i128::from(above))
 }

@@ -17,6 +17,7 @@ pub mod small;
 pub mod stretch;
 
 pub use bitmaps::read_bitmap;
+pub use bounded::read_in_form;
 pub use character_string::read_characters;
 pub use codes::string_of;
 pub use enumerated::read_item;

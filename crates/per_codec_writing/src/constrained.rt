@@ -1,5 +1,6 @@
 //! Constrained whole numbers (X.691 11.5).
 ghost use Rattle.std.specs.Prelude.{◌≡◌, ◌≤◌, true, MatchResult};
+ghost use Rattle.asn1_model.specs.Numbers.{width};
 ghost use Rattle.asn1_model.specs.Per.{constrained};
 ghost use Rattle.per_codec_packing.specs.FieldLists.{field_list_at};
 ghost use Rattle.per_codec_writing.specs.Writing.{Adds, Refuses, place};
@@ -72,5 +73,28 @@ pub fn push_constrained(
         return Ok(());
     }
     output.push_bits(value, bit_count(span) as u32)?;
+    Ok(())
+}
+
+/// The same for a span of 64 bits, which has this number of bits.
+#[inline(always)]
+pub(crate) fn push_offset(
+    output: &mut Packing,
+    variant: Variant,
+    span: u64,
+    bits: u8,
+    value: u64,
+) -> Result<(), EncodeError>
+    requires within { value ≤ span }
+    requires bits { bits ≡ width span }
+    ensures { MatchResult result (λ _. Adds
+        (field_list_at (constrained (is_aligned variant) span value) (place output.old)) output.old output.new)
+        (Refuses (field_list_at (constrained (is_aligned variant) span value) (place output.old))) }
+{
+    if variant.is_aligned() && span >= 255 {
+        push_octets(output, u128::from(span), u128::from(value))?;
+        return Ok(());
+    }
+    output.push_bits(u128::from(value), u32::from(bits))?;
     Ok(())
 }

@@ -3,17 +3,20 @@ ghost use Rattle.std.specs.Prelude.{◌≡◌, true, MatchResult};
 ghost use Rattle.asn1_model.specs.Numbers.{is_within};
 ghost use Rattle.asn1_model.specs.Per.{form, semi_constrained, unconstrained, whole_number as number_form};
 ghost use Rattle.asn1_model.specs.Per.{with_extension_bit};
-ghost use Rattle.asn1_model.specs.Schema.{integer};
+ghost use Rattle.asn1_model.specs.Schema.{integer, wide_range};
 ghost use Rattle.asn1_model.specs.Value.{number as number_value};
 ghost use Rattle.asn1_schema_constraints.specs.Bounds.{admits_number, lower, upper};
 ghost use Rattle.asn1_schema_constraints.specs.Terms.{bounds_of, held_of};
+ghost use Rattle.asn1_schema_forms.specs.Forms.{form_bounds};
 ghost use Rattle.per_codec_packing.specs.FieldLists.{field_list_at};
 ghost use Rattle.per_codec_writing.specs.Writing.{Adds, Refuses, place};
 ghost use Rattle.per_codec_rules.specs.Variants.{is_aligned};
 
+use crate::constrained::push_offset;
 use crate::{push_constrained, push_counted_octets};
 use asn1_schema_constraints::{Bounded, Constraints};
 use asn1_schema_errors::EncodeError;
+use asn1_schema_forms::NumberForm;
 use asn1_values_integers::IntegerType;
 use per_codec_packing::Packing;
 use per_codec_rules::Variant;
@@ -152,4 +155,28 @@ pub fn push_integer<I: IntegerType>(
         limits.extensible.is_some(),
         number,
     )
+}
+
+/// Adds an INTEGER (X.691 13) between two bounds, in its form.
+///
+/// # Errors
+///
+/// `ValueConstraintNotSatisfied` if the number is not between the bounds, and `OutOfMemory`.
+#[inline(always)]
+pub fn push_in_form(
+    output: &mut Packing,
+    variant: Variant,
+    form: &NumberForm,
+    number: i128,
+) -> Result<(), EncodeError>
+    ensures { MatchResult result (λ _. Adds
+        (field_list_at (number_form (is_aligned variant) (Some form.now.low) (Some form.now.high) number) (place output.old))
+        output.old output.new)
+        (Refuses (field_list_at (number_form (is_aligned variant) (Some form.now.low) (Some form.now.high) number) (place output.old))) }
+{
+    if number < form.low() || form.high() < number {
+        return Err(EncodeError::ValueConstraintNotSatisfied);
+    }
+    let offset = (number - form.low()) as u64;
+    push_offset(output, variant, form.span(), form.bits(), offset)
 }

@@ -33,7 +33,7 @@ pub use constrained::push_constrained;
 pub use counted::{push_counted, push_counted_octets};
 pub use enumerated::{push_enumerated, push_index};
 pub use headings::push_heading;
-pub use integer::push_integer;
+pub use integer::{push_in_form, push_integer};
 pub use length::{Due, push_fragment_length, push_length_determinant, push_short_length};
 pub use object_identifier::push_identifier;
 pub use octet_string::push_octet_string;
