@@ -1,8 +1,10 @@
 //! Tables of types that are lawful.
-ghost use Rattle.std.specs.Prelude.{◌≡◌, ℕ, true, IfOk, IfErr, OnOk, Some, map, slice_get};
+ghost use Rattle.std.specs.Prelude.{◌≡◌, ℕ, true, IfOk, IfErr, IfSome, OnOk, Some, map, slice_get};
 ghost use Rattle.std.specs.Option.{option_copied};
 ghost use Rattle.asn1_table_types.specs.Choices.{tags_at, tags_in};
+ghost use Rattle.asn1_schema_forms.specs.Forms.{form_bounds};
 ghost use Rattle.asn1_table_types.specs.Flaws.{is_sound, lacks};
+ghost use Rattle.asn1_table_types.specs.Forms.{AreForms, bounds_there};
 ghost use Rattle.asn1_table_nodes.specs.Defaults.{has_defaults};
 ghost use Rattle.asn1_table_nodes.specs.Meaning.{type_of, type_at};
 ghost use Rattle.asn1_table_nodes.specs.Reduced.{has_reduced_defaults};
@@ -29,6 +31,7 @@ pub struct Types {
     pub ghost lawful: { AreLawful nodes.items },
     pub ghost tidy: { AreTidy nodes.items },
     pub ghost tagged: { choices.items ≡ map tags_in nodes.items },
+    pub ghost formed: { AreForms nodes.items forms.items },
 }
 
 impl Types {
@@ -74,7 +77,8 @@ impl Types {
     /// The form of the numbers of the INTEGER at an index, if it has one.
     #[inline(always)]
     pub fn number_form(&self, place: usize) -> Option<&NumberForm>
-        ensures { IfSome result (λ form. IsFormOf (slice_get self.now.nodes.items place) form.now) }
+        ensures { IfSome result
+            (λ form. bounds_there (slice_get self.now.nodes.items place) ≡ Some (form_bounds form.now)) }
     {
         match self.forms.get(place) {
             Some(Some(form)) => Some(form),
