@@ -1,6 +1,5 @@
 -- The forms of types, one after another.
-use Rattle.std.proofs.Common.{◌≡◌, ◌++◌, ◌∷◌, [], ℕ, zero, suc, length, List, Option, Some, None, IfSome, slice_get, ap, refl, subst, ◌∙◌}
-use Rattle.asn1_model.specs.Schema.{Bounds}
+use Rattle.std.proofs.Common.{◌≡◌, ◌++◌, ◌∷◌, [], ℕ, zero, suc, length, List, Option, Some, IfSome, slice_get, ap, refl, subst, ◌∙◌}
 use Rattle.asn1_schema_forms.specs.Forms.{form_bounds}
 use Rattle.asn1_schema_forms.specs.declared.number.NumberForm.{NumberForm}
 use Rattle.asn1_table_nodes.specs.declared.nodes.TypeNode.{TypeNode}

@@ -11,10 +11,7 @@ use asn1_schema_forms::NumberForm;
 use std::alloc::{AllocError, Global};
 
 /// Of each type the form of its numbers, if it is an INTEGER that has one.
-pub fn forms_of(
-    alloc: Global,
-    nodes: &[TypeNode],
-) -> Result<Vec<Option<NumberForm>>, AllocError>
+pub fn forms_of(alloc: Global, nodes: &[TypeNode]) -> Result<Vec<Option<NumberForm>>, AllocError>
     ensures { IfOk result (λ forms. AreForms nodes.now forms.items) }
 {
     let mut forms = Vec::with_capacity(alloc, nodes.len())?;

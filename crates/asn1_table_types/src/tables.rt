@@ -13,8 +13,8 @@ ghost use Rattle.asn1_table_types.specs.Tables.{AreLawful, AreTidy, IsRefused, I
 use crate::checks::{check_defaults, check_node};
 use crate::choice_tags::{AlternativeTags, choices_of};
 use crate::faults::Refusal;
-use crate::{TableError, TypeNode};
 use crate::forms::forms_of;
+use crate::{TableError, TypeNode};
 use asn1_schema_forms::NumberForm;
 use asn1_schema_tags::TagTables;
 use asn1_table_nodes::has_reduced_defaults;
@@ -47,17 +47,17 @@ impl Types {
         ensures refused { IfErr result (λ e. IsRefused nodes.items e) }
     {
         check_all(alloc, nodes.as_slice())?;
-        match choices_of(alloc, nodes.as_slice()) {
-            Ok(choices) => match forms_of(alloc, nodes.as_slice()) {
-                Ok(forms) => Ok(Types {
-                    nodes,
-                    choices,
-                    forms,
-                }),
-                Err(_) => Err(TableError::OutOfMemory),
-            },
-            Err(_) => Err(TableError::OutOfMemory),
-        }
+        let Ok(choices) = choices_of(alloc, nodes.as_slice()) else {
+            return Err(TableError::OutOfMemory);
+        };
+        let Ok(forms) = forms_of(alloc, nodes.as_slice()) else {
+            return Err(TableError::OutOfMemory);
+        };
+        Ok(Types {
+            nodes,
+            choices,
+            forms,
+        })
     }
 
     /// The types, by their indices.
