@@ -20,7 +20,9 @@ by_bounds : (P : Option TypeNode → Type 0) (o : Option TypeNode) (z : Bounds) 
     → ((l : NumberLimits) → z ≡ bounds_in (Some l) → o ≡ Some (Integer (Some l)) → P (Some (Integer (Some l)))) → P o
 by_bounds P None z e k = absurd cc
 by_bounds P (Some (Integer None)) z e k = absurd cc
-by_bounds P (Some (Integer (Some l))) z e k = k l cc refl
+by_bounds P (Some (Integer (Some l))) z e k =
+    let q : z ≡ bounds_in (Some l) = cc in
+    k l q refl
 by_bounds P (Some x) z e k = absurd cc
 
 -- The record of a number.

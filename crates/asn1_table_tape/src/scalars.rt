@@ -107,7 +107,11 @@ pub fn read_in_form<D: Decoder>(
     ensures call { DecoderCall D.has_failed (SameLevel D.levels) decoder.old decoder.new result }
 {
     let number = decoder.decode_number(alloc, form)?;
-    keep(decoder, tape, Event::Number(place, Integer::from_i128(number)))?;
+    keep(
+        decoder,
+        tape,
+        Event::Number(place, Integer::from_i128(number)),
+    )?;
     Ok(())
 }
 
