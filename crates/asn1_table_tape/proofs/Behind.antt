@@ -5,14 +5,14 @@ use Rattle.std.specs.Option.{option_copied, option_map_or, option_or}
 use Rattle.std.proofs.lemmas.List.{drop_more, drop_all}
 use Rattle.asn1_laws_values.proofs.Counts.{count, one_if}
 use Rattle.asn1_model.specs.Lawful.{member_count}
-use Rattle.asn1_model.specs.Value.{Value, Values, members, bag, fields, chosen, no_more, member, values_of, Parts as Fields, end, absent, present, same}
+use Rattle.asn1_model.specs.Value.{Value, Values, members, bag, fields, chosen, values_of, Parts as Fields, absent, present, same}
 use Rattle.asn1_schema_tags.specs.declared.chosen.Chosen.{Chosen}
 use Rattle.asn1_table_nodes.specs.Values.{scalar_of, value_of, part_of, parts_of}
 use Rattle.asn1_table_nodes.proofs.Values.{with_part, values_next, values_end, parts_next, parts_end}
 use Rattle.asn1_table_nodes.specs.declared.events.DefaultValue.{DefaultValue}
 use Rattle.asn1_table_nodes.specs.declared.events.Event.{Event as Scalar}
 use Rattle.asn1_table_nodes.specs.declared.events.Event.TheVariants as scalar
-use Rattle.asn1_table_tape.specs.declared.defaults.Mark.TheVariants.{Opens, More, Picks, Parts, Present, Additions, Added, AddedEnds, Closes}
+use Rattle.asn1_table_tape.specs.declared.defaults.Mark.TheVariants.{Opens, More, Picks, Parts, Present, Additions, Added, Closes}
 use Rattle.asn1_table_tape.specs.declared.tape.Event.{Event}
 use Rattle.asn1_table_tape.specs.Values.{is_scalar, has_mark, behind_event, past, behind_value, behind_members, behind_any, behind_each, behind_root, behind_added, behind_addition, behind_bag, behind_nth, count_alike, count_on, counts_on}
 

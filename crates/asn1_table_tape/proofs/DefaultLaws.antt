@@ -19,15 +19,13 @@ use Rattle.asn1_schema_laws.specs.Presents.{presents, member_records, chosen_rec
 use Rattle.asn1_table_laws.proofs.Normal.{normal_fits}
 use Rattle.asn1_table_nodes.specs.Sameness.{is_among, are_among}
 use Rattle.asn1_table_nodes.proofs.EqualBags.{bag_is, counts_agree, matched, no_bag}
-use Rattle.asn1_table_nodes.specs.Values.{value_of}
-use Rattle.asn1_table_nodes.specs.declared.events.DefaultValue.{DefaultValue}
 use Rattle.asn1_table_nodes.specs.declared.nodes.TypeNode.{TypeNode}
 use Rattle.asn1_table_tape.specs.declared.defaults.Mark.{Mark}
 use Rattle.asn1_table_tape.specs.declared.defaults.Mark.TheVariants.{Opens, More, Picks, Parts, Present, Additions, Added, AddedEnds, Closes}
 use Rattle.asn1_table_tape.specs.declared.tape.Event.{Event}
 use Rattle.asn1_table_tape.specs.declared.tape.Event.TheVariants as event
 use Rattle.asn1_table_tape.specs.Records.{record_of, records_of}
-use Rattle.asn1_table_tape.specs.Values.{is_scalar, has_mark, behind_event, behind_value, behind_members, behind_any, behind_each, behind_bag, behind_root, behind_added, behind_addition, count_on, counts_on, past}
+use Rattle.asn1_table_tape.specs.Values.{is_scalar, has_mark, behind_event, behind_value, behind_members, behind_any, behind_each, behind_bag, behind_root, behind_added, count_on, counts_on, past}
 use Rattle.asn1_table_tape.proofs.Shapes as shapes
 use Rattle.asn1_table_tape.proofs.Shapes.{payload, payload_of, opens, more, picks, parts, there, additions, added, added_ends, closes, mark, mark_in, mark_of, is_bit, is_single, single, begun, shape}
 

@@ -1,17 +1,17 @@
-use Rattle.std.proofs.Common.{◌≡◌, ◌∙◌, refl, sym, ap, ℕ, ◌+◌, ◌-◌, ◌<◌, map, drop, length, true, false, Bool, cond, ◌&&◌, is_some, List, Option, Some, None, Vec, Global, arith}
+use Rattle.std.proofs.Common.{◌≡◌, ◌∙◌, sym, ap, ℕ, ◌+◌, ◌-◌, ◌<◌, map, drop, length, false, Bool, cond, ◌&&◌, is_some, List, Option, Some, None, Vec, Global, arith}
 use Rattle.std.specs.Prelude.{option_and_then, option_copied}
 use Rattle.std.specs.Option.{option_map_or, option_or}
 use Rattle.std.proofs.lemmas.Bool.{eq-eqb}
 use Rattle.asn1_laws_values.proofs.Counts.{one_if}
 use Rattle.asn1_model.specs.Lawful.{member_count}
-use Rattle.asn1_model.specs.Value.{Value, values_of}
+use Rattle.asn1_model.specs.Value.{values_of}
 use Rattle.asn1_table_nodes.specs.Values.{value_of, part_of, parts_of}
 use Rattle.asn1_table_nodes.proofs.EqualBags.{unequal_eqb}
 use Rattle.asn1_table_nodes.proofs.Values.{simple_value, sequence_value, bag_value, choice_value, parts_value}
 use Rattle.asn1_table_nodes.specs.declared.events.DefaultValue.{DefaultValue}
 use Rattle.asn1_table_nodes.specs.declared.events.DefaultValue.TheVariants.{Components}
 use Rattle.asn1_table_tape.specs.declared.tape.Event.{Event}
-use Rattle.asn1_table_tape.specs.declared.defaults.Mark.TheVariants.{Opens, More, Picks, Parts, Additions, Closes}
+use Rattle.asn1_table_tape.specs.declared.defaults.Mark.TheVariants.{Parts, Additions, Closes}
 use Rattle.asn1_table_tape.specs.Values.{has_mark, behind_added, behind_any, behind_bag, behind_each, behind_event, behind_members, behind_nth, behind_root, behind_value, count_on, counts_on, past}
 use Rattle.asn1_table_tape.proofs.Behind.{scalar_behind, sequence_behind, bag_behind, choice_behind, fields_behind, members_next, members_end, any_next, any_end, root_next, root_end, root_one, root_step}
 use Rattle.asn1_table_tape.proofs.Behind.{at_most_one, added_next, added_end, added_one, added_step, nth_here, nth_later, nth_over, counted, at_index, counts_next, counts_over, alike_at, each_step, each_end, count_step, count_end, some_copied}
