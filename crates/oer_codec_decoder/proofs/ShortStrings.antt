@@ -1,14 +1,16 @@
 -- Strings with missing octets.
-use Rattle.std.proofs.Common.{◌≡◌, ℕ, ◌+◌, ◌-◌, ◌*◌, ◌/◌, ◌≤◌, ◌<◌, ◌^◌, Bool, true, false, List, [], ◌∷◌, ◌++◌, length, take, Option, Some, None, refl, subst, length-append, arith}
+use Rattle.std.proofs.Common.{◌≡◌, ℕ, ◌+◌, ◌-◌, ◌/◌, ◌≤◌, ◌^◌, Bool, true, false, List, [], ◌∷◌, ◌++◌, length, take, Option, Some, None, refl, subst, length-append, arith}
 use Rattle.std.proofs.lemmas.List.{length-take}
 use Rattle.asn1_model.specs.Oer
-use Rattle.asn1_model.specs.Schema.{Size, Counts, Range, StringKind, Alphabet, integer, bit_string, octet_string, character_string, utf8, object_identifier}
-use Rattle.asn1_model.specs.Numbers.{missing}
+use Rattle.asn1_model.specs.Schema.{Size, Counts, Range, StringKind, Alphabet, wide_range, integer, bit_string, octet_string, character_string, utf8, object_identifier}
 use Rattle.asn1_model.specs.Strings.{may_hold}
 use Rattle.asn1_values_alphabets.specs.Permitted.{permits_all, permits}
 use Rattle.asn1_schema_constraints.specs.Terms.{one_size, bounds_of, held_of}
+use Rattle.asn1_schema_constraints.specs.Widths.{fixed_width}
 use Rattle.asn1_schema_constraints.specs.declared.extensions.Extensible.{Extensible}
 use Rattle.asn1_schema_constraints.specs.declared.parts.Value as Constraint
+use Rattle.asn1_schema_forms.specs.Forms.{form_bounds}
+use Rattle.asn1_schema_forms.specs.declared.number.NumberForm.{NumberForm}
 use Rattle.oer_codec_laws.specs.Takes.{Scope, components, State, Front, AdditionsBegin}
 use Rattle.oer_codec_longer_laws.proofs.Behind.{front_more}
 use Rattle.oer_codec_reading.specs.declared.rules.EncodingRules.{EncodingRules}
@@ -23,6 +25,7 @@ use Rattle.oer_codec_reading.proofs.CharacterFronts as Characters
 use Rattle.oer_codec_reading.proofs.TextFronts as Texts
 use Rattle.oer_codec_reading.proofs.WholeFronts as Wholes
 use Rattle.oer_codec_reading.proofs.IntegerFronts as Integers
+use Rattle.oer_codec_reading.proofs.FormFronts as Forms
 use Rattle.oer_codec_reading.proofs.BitFronts as Bits
 use Rattle.oer_codec_reading.proofs.BitStringFronts as BitStrings
 use Rattle.oer_codec_reading.proofs.BitmapFronts as Bitmaps
@@ -82,6 +85,11 @@ module _ (r : EncodingRules) where
       TooShort (freedoms r) size w → NoneStands (freedoms r) (Oer.form (integer (bounds_of c) (held_of c h))) w
   no_whole c h size e w t =
       Integers.no_integer (freedoms r) c h (sign_under (bounds_of c)) size w refl e (Wholes.no_octets r (sign_under (bounds_of c)) size w (none_sized (freedoms r) size w t))
+
+  -- between two bounds, in its form
+  pub no_in_form : (f : NumberForm) (k : ℕ) → Some k ≡ fixed_width (Some f.low) (Some f.high) → (w : List ℕ) →
+      TooShort (freedoms r) (Some k) w → NoneStands (freedoms r) (Oer.form (integer (form_bounds f) wide_range)) w
+  no_in_form f k e w t = Forms.form_missed r f k w e (none_sized (freedoms r) (Some k) w t)
 
   no_varying : (w : List ℕ) → TooShort (freedoms r) None w → NoneStands (freedoms r) (Oer.bit_string_form false) w
   no_varying w t = BitStrings.few_octets r w t.1 t.0 (λ z. let l = t.3 in absurd (omega (arith, z, l))) t.3 t.2

@@ -119,7 +119,7 @@ module _ (free : Freedom → Bool) where
       if_stands free ((option_map_or (λ x. is_at_most x v) low true) && (option_map_or (λ x. is_at_most v x) high true)) (bounded low high v) w rest a
       (subst (λ x. Stands free x w rest) (sym (form_told low high v)) i.1)
 
-  integer_front : (b : Bounds) (held : Range) (u : Value) (w rest : List ℕ) → FrontOf free (integer b held) u w rest → (v : ℤ) ×
+  pub integer_front : (b : Bounds) (held : Range) (u : Value) (w rest : List ℕ) → FrontOf free (integer b held) u w rest → (v : ℤ) ×
       (is_within held v ≡ true) × ((b.extensible || is_within b.range v) ≡ true) × Stands free (number_in (sign_under b) (width_under b) v) w rest
   unfolding form integer_form Reads
   integer_front b held (number v) w rest h =
@@ -128,7 +128,7 @@ module _ (free : Freedom → Bool) where
       (v, (and_parts (is_within held v) (not (is_bounded b) || fits_128 v) i.0).0, e.0, e.1)
   integer_front b held u w rest h = absurd h.2
 
-  integer_stands : (b : Bounds) (held : Range) (v : ℤ) (w rest : List ℕ) → is_within held v ≡ true → (not (is_bounded b) || fits_128 v) ≡ true →
+  pub integer_stands : (b : Bounds) (held : Range) (v : ℤ) (w rest : List ℕ) → is_within held v ≡ true → (not (is_bounded b) || fits_128 v) ≡ true →
       (b.extensible || is_within b.range v) ≡ true → Stands free (number_in (sign_under b) (width_under b) v) w rest → FrontOf free (integer b held) (number v) w rest
   unfolding form integer_form
   integer_stands b held v w rest a f e h = if_stands free (is_within held v && (not (is_bounded b) || fits_128 v)) _ w rest (and_true _ _ a f)
@@ -151,13 +151,17 @@ module _ (free : Freedom → Bool) where
       n i.0 rest (subst (λ t. Stands free (number_in t width i.0) w rest) (sym e) (subst (λ o. Stands free (number_in (sign_under (bounds_of c)) o i.0) w rest) (sym f) i.3))
 
   -- a number that comes first and is not of the type
+  pub other_number : (b : Bounds) (held : Range) (v : ℤ) (w mid : List ℕ) → (is_within held v ≡ true → (b.extensible || is_within b.range v) ≡ true → ⊥) →
+      Stands free (number_in (sign_under b) (width_under b) v) w mid → NoneStands free (form (integer b held)) w
+  other_number b held v w mid n s u rest t =
+      let i = integer_front b held u w rest t in
+      let o = (number_one free (sign_under b) (width_under b) v i.0 w mid rest s i.3).0 in
+      n (ap (is_within held) o ∙ i.1) (ap (λ x. b.extensible || is_within b.range x) o ∙ i.2)
+
   other_integer : (c : Option (Extensible Constraint.Value)) (h : Range) (v : ℤ) (w mid : List ℕ) →
       (is_within (held_of c h) v ≡ true → ((bounds_of c).extensible || is_within (bounds_of c).range v) ≡ true → ⊥) →
       Stands free (number_in (sign_under (bounds_of c)) (width_under (bounds_of c)) v) w mid → NoneStands free (form (integer (bounds_of c) (held_of c h))) w
-  other_integer c h v w mid n s u rest t =
-      let i = integer_front (bounds_of c) (held_of c h) u w rest t in
-      let o = (number_one free (sign_under (bounds_of c)) (width_under (bounds_of c)) v i.0 w mid rest s i.3).0 in
-      n (ap (is_within (held_of c h)) o ∙ i.1) (ap (λ x. (bounds_of c).extensible || is_within (bounds_of c).range x) o ∙ i.2)
+  other_integer c h v w mid n s = other_number (bounds_of c) (held_of c h) v w mid n s
 
   pub not_admitted : (c : Option (Extensible Constraint.Value)) (h : Range) (v : ℤ) (w mid : List ℕ) → admits_whole c v ≡ false →
       Stands free (number_in (sign_under (bounds_of c)) (width_under (bounds_of c)) v) w mid → NoneStands free (form (integer (bounds_of c) (held_of c h))) w

@@ -6,6 +6,7 @@ pub mod Truths
 pub mod SizedFronts
 pub mod WholeFronts
 pub mod IntegerFronts
+pub mod FormFronts
 pub mod BitFronts
 pub mod BitStringFronts
 pub mod IdentifierFronts

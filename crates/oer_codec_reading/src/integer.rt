@@ -13,6 +13,7 @@ ghost use Rattle.oer_codec_reading.specs.Integers.{sign_under, width_under};
 
 use crate::magnitudes::{fixed_number, short_number};
 use crate::numbers::read_number;
+use crate::octet_string::read_sized;
 use crate::{Cursor, EncodingRules};
 use asn1_schema_constraints::Constraints;
 use asn1_schema_errors::{DecodeError, held_number, number_from_octets};
@@ -202,7 +203,7 @@ pub fn read_in_form(
     ensures only { IfErr result (NoFront (freedoms rules) (Asn1.integer (form_bounds form.now) wide_range)
         cursor.old) }
 {
-    let octets = read_number(cursor, rules, form.is_signed(), Some(usize::from(form.octets())))?;
+    let octets = read_sized(cursor, rules, Some(usize::from(form.octets())))?;
     let number = fixed_number(form.is_signed(), octets);
     if number < form.low() || form.high() < number {
         return Err(DecodeError::ValueConstraintNotSatisfied);

@@ -1,6 +1,7 @@
 pub mod LengthTexts
 pub mod ScalarTexts
 pub mod IntegerTexts
+pub mod FormTexts
 pub mod BitTexts
 pub mod DigitTexts
 pub mod CharacterTexts
