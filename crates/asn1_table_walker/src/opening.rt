@@ -23,6 +23,7 @@ use asn1_table_types::{TypeNode, Types};
 use std::alloc::Global;
 
 /// Reads a value of the type at an index, if it is one record, or begins it.
+#[inline(always)]
 pub fn open<D: Decoder>(
     alloc: Global,
     decoder: &mut D,
@@ -45,6 +46,28 @@ pub fn open<D: Decoder>(
         read_in_form(alloc, decoder, form, place, tape)?;
         return Ok(None);
     }
+    open_node(alloc, decoder, types, place, tape)
+}
+
+// The same of any type.
+fn open_node<D: Decoder>(
+    alloc: Global,
+    decoder: &mut D,
+    types: &Types,
+    place: usize,
+    tape: &mut Vec<Event>,
+) -> Result<Option<Frame>, DecodeError>
+    ensures ok { IfOk result (λ o. Opens D.step D.too_few D.too_few_members
+        (type_at types.now.nodes.items (D.levels decoder.old) place)
+        (pending_in types.now.nodes.items (D.levels decoder.new) o) decoder.old decoder.new
+        (records_of types.now.nodes.items tape.old.items)
+        (records_of types.now.nodes.items tape.new.items)) }
+    ensures level { IfOk result (λ o. D.levels decoder.old ≡ D.levels decoder.new + levels_in o) }
+    ensures only { IfErr result (NoValue D.step D.too_few
+        (type_at types.now.nodes.items (D.levels decoder.old) place) decoder.old decoder.new) }
+    ensures going { OnOk result (D.has_failed decoder.new → ⊥) }
+    ensures call { DecoderCall D.has_failed (λ _ _. ⊤) decoder.old decoder.new result }
+{
     match types.node(place) {
         None => Err(refuse_any(decoder)),
         Some(TypeNode::SequenceOf(sizes, _members)) => {
