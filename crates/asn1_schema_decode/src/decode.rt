@@ -171,7 +171,8 @@ pub trait Decoder {
             (NoRecord step too_few (asks_whole_under constraints.now I.held) self.old self.new) }
         ensures call { DecoderCall has_failed (SameLevel levels) self.old self.new result };
 
-    /// INTEGER (X.680 19) between two bounds, in its form.
+    /// INTEGER (X.680 19) between two bounds, in the form that was worked out of them: as `decode_integer` under these
+    /// bounds as a value constraint.
     fn decode_number(&mut self, alloc: Global, form: &NumberForm) -> Result<i128, DecodeError>
         ensures ok { IfOk result (λ x. step self.old (whole (form_bounds form.now) wide_range x) self.new) }
         ensures only { IfErr result

@@ -79,13 +79,19 @@ pub trait Encoder {
         ensures only { IfErr result (Refused step (whole_under constraints.now I.held (I.value value.now)) self.old) }
         ensures call { EncoderCall has_failed front self.old self.new result };
 
-    /// INTEGER (X.680 19) between two bounds, in its form.
+    /// INTEGER (X.680 19) between two bounds, in the form that was worked out of them: as `encode_integer` under these
+    /// bounds as a value constraint.
     fn encode_number(&mut self, form: &NumberForm, number: i128) -> Result<(), EncodeError>
         ensures ok { OnOk result (step self.old (whole (form_bounds form.now) wide_range number) self.new) }
         ensures only { IfErr result (Refused step (whole (form_bounds form.now) wide_range number) self.old) }
         ensures call { EncoderCall has_failed front self.old self.new result }
     {
-        self.encode_integer(Tag::INTEGER, &form.constraints(), &number, Identifier::INTEGER)
+        self.encode_integer(
+            Tag::INTEGER,
+            &form.constraints(),
+            &number,
+            Identifier::INTEGER,
+        )
     }
 
     /// ENUMERATED (X.680 20): an item of these items, by its number and its enumeration index.

@@ -12,10 +12,7 @@ impl NumberForm {
         ensures { bounds_of result.value ≡ form_bounds self.now }
     {
         Constraints {
-            value: Some(Extensible::new(Value::new(Bounded::const_new(
-                self.low(),
-                self.high(),
-            )))),
+            value: Some(Extensible::new(Value::new(Bounded::const_new(self.low(), self.high())))),
             ..Constraints::NONE
         }
     }

@@ -5,3 +5,4 @@ mod Shapes
 mod Behind
 mod DefaultLaws
 mod Leaving
+pub mod FormRecords

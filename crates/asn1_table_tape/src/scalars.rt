@@ -4,11 +4,13 @@
 ghost use Rattle.std.specs.Prelude.{◌≡◌, ◌+◌, ◌≤◌, List, Some, IfErr, OnOk, vec_len, slice_get};
 ghost use Rattle.asn1_model.specs.Schema.{boolean, null, object_identifier};
 ghost use Rattle.asn1_schema_errors.specs.Calls.{DecoderCall, SameLevel};
+ghost use Rattle.asn1_schema_forms.specs.Forms.{form_bounds};
 ghost use Rattle.asn1_table_laws.specs.Walks.{Told, NoValue};
 ghost use Rattle.asn1_table_nodes.specs.Meaning.{type_of};
 ghost use Rattle.asn1_table_nodes.specs.declared.nodes.TypeNode.{TypeNode as Node};
 ghost use Rattle.asn1_table_nodes.specs.declared.nodes.TypeNode.TheVariants as node;
 ghost use Rattle.asn1_table_tape.specs.Records.{records_of};
+ghost use Rattle.asn1_table_types.specs.Forms.{bounds_there};
 
 use crate::tape::{Event, keep};
 use crate::terms::{items_at, number_constraints, size_constraints};
@@ -95,10 +97,11 @@ pub fn read_in_form<D: Decoder>(
     place: usize,
     tape: &mut Vec<Event>,
 ) -> Result<(), DecodeError>
-    ensures ok { OnOk result ((ns : List Node) → IsFormOf (slice_get ns place) form.now
+    ensures ok { OnOk result ((ns : List Node) → bounds_there (slice_get ns place) ≡ Some (form_bounds form.now)
         → Told D.step (type_of ns (D.levels decoder.old) (slice_get ns place)) decoder.old decoder.new
         (records_of ns tape.old.items) (records_of ns tape.new.items)) }
-    ensures only { IfErr result (λ x. (ns : List Node) → IsFormOf (slice_get ns place) form.now
+    ensures only { IfErr result
+        (λ x. (ns : List Node) → bounds_there (slice_get ns place) ≡ Some (form_bounds form.now)
         → NoValue D.step D.too_few (type_of ns (D.levels decoder.old) (slice_get ns place)) decoder.old decoder.new x) }
     ensures going { OnOk result (D.has_failed decoder.new → ⊥) }
     ensures call { DecoderCall D.has_failed (SameLevel D.levels) decoder.old decoder.new result }

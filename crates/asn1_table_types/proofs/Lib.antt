@@ -7,3 +7,4 @@ pub mod Sound
 pub mod Inserting
 pub mod Tagged
 pub mod NormalDefaults
+pub mod FormLaws

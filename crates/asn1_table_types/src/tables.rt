@@ -1,8 +1,10 @@
 //! Tables of types that are lawful.
-ghost use Rattle.std.specs.Prelude.{◌≡◌, ℕ, true, IfOk, IfErr, OnOk, Some, map, slice_get};
+ghost use Rattle.std.specs.Prelude.{◌≡◌, ℕ, true, IfOk, IfErr, IfSome, OnOk, Some, map, slice_get};
 ghost use Rattle.std.specs.Option.{option_copied};
 ghost use Rattle.asn1_table_types.specs.Choices.{tags_at, tags_in};
+ghost use Rattle.asn1_schema_forms.specs.Forms.{form_bounds};
 ghost use Rattle.asn1_table_types.specs.Flaws.{is_sound, lacks};
+ghost use Rattle.asn1_table_types.specs.Forms.{AreForms, bounds_there};
 ghost use Rattle.asn1_table_nodes.specs.Defaults.{has_defaults};
 ghost use Rattle.asn1_table_nodes.specs.Meaning.{type_of, type_at};
 ghost use Rattle.asn1_table_nodes.specs.Reduced.{has_reduced_defaults};
@@ -11,8 +13,8 @@ ghost use Rattle.asn1_table_types.specs.Tables.{AreLawful, AreTidy, IsRefused, I
 use crate::checks::{check_defaults, check_node};
 use crate::choice_tags::{AlternativeTags, choices_of};
 use crate::faults::Refusal;
-use crate::{TableError, TypeNode};
 use crate::forms::forms_of;
+use crate::{TableError, TypeNode};
 use asn1_schema_forms::NumberForm;
 use asn1_schema_tags::TagTables;
 use asn1_table_nodes::has_reduced_defaults;
@@ -29,6 +31,7 @@ pub struct Types {
     pub ghost lawful: { AreLawful nodes.items },
     pub ghost tidy: { AreTidy nodes.items },
     pub ghost tagged: { choices.items ≡ map tags_in nodes.items },
+    pub ghost formed: { AreForms nodes.items forms.items },
 }
 
 impl Types {
@@ -44,17 +47,17 @@ impl Types {
         ensures refused { IfErr result (λ e. IsRefused nodes.items e) }
     {
         check_all(alloc, nodes.as_slice())?;
-        match choices_of(alloc, nodes.as_slice()) {
-            Ok(choices) => match forms_of(alloc, nodes.as_slice()) {
-                Ok(forms) => Ok(Types {
-                    nodes,
-                    choices,
-                    forms,
-                }),
-                Err(_) => Err(TableError::OutOfMemory),
-            },
-            Err(_) => Err(TableError::OutOfMemory),
-        }
+        let Ok(choices) = choices_of(alloc, nodes.as_slice()) else {
+            return Err(TableError::OutOfMemory);
+        };
+        let Ok(forms) = forms_of(alloc, nodes.as_slice()) else {
+            return Err(TableError::OutOfMemory);
+        };
+        Ok(Types {
+            nodes,
+            choices,
+            forms,
+        })
     }
 
     /// The types, by their indices.
@@ -74,7 +77,8 @@ impl Types {
     /// The form of the numbers of the INTEGER at an index, if it has one.
     #[inline(always)]
     pub fn number_form(&self, place: usize) -> Option<&NumberForm>
-        ensures { IfSome result (λ form. IsFormOf (slice_get self.now.nodes.items place) form.now) }
+        ensures { IfSome result
+            (λ form. bounds_there (slice_get self.now.nodes.items place) ≡ Some (form_bounds form.now)) }
     {
         match self.forms.get(place) {
             Some(Some(form)) => Some(form),

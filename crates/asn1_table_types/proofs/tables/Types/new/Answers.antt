@@ -1,6 +1,7 @@
 use Rattle.std.proofs.Common.{◌≡◌, ◌∙◌, List, ap, map, subst, sym, true}
 use Rattle.asn1_table_types.specs.Choices.{tags_in}
 use Rattle.asn1_table_types.specs.Flaws.{is_sound}
+use Rattle.asn1_table_types.specs.Forms.{AreForms}
 use Rattle.asn1_table_nodes.specs.Meaning.{type_at}
 use Rattle.asn1_table_types.specs.Tables.{AreLawful, AreTidy}
 use Rattle.asn1_table_types.proofs.NormalDefaults.{all_tidy}
@@ -20,4 +21,5 @@ invariant_of-result c =
       tidy = subst (λ (ns : List TypeNode). AreTidy ns) c.as_slice.ensures.value (all_tidy c.as_slice.result.now c.in_ok-check_all.ensures.reduced);
       lawful = subst P c.as_slice.ensures.value (all_lawful c.as_slice.result.now c.in_ok-check_all.ensures.sound c.in_ok-check_all.ensures.typed);
       tagged = c.in-Ok.ensures ∙ ap (map tags_in) c.as_slice-2.ensures.value;
+      formed = subst (λ (ns : List TypeNode). AreForms ns c.in-Ok-forms_of.forms.items) c.as_slice-3.ensures.value c.in-Ok-forms_of.ensures;
     }
