@@ -120,12 +120,18 @@ module _ (free : Per.Freedom → Bool) (al : Bool) where
         (v, p.0, if_in free (is_within wide_range v) _ a b p.1 i.1)
     bounded_out h u a b f = absurd (of_refused free a b f)
 
-    in_wide : (v : ℤ) (a b : Position) → Front free (in_128_bits (under_constraint al c) v) a b → Front free (Per.integer_form al (bounds_of (Some c)) wide_range v) a b
+    pub in_wide : (v : ℤ) (a b : Position) → Front free (in_128_bits (under_constraint al c) v) a b → Front free (Per.integer_form al (bounds_of (Some c)) wide_range v) a b
     unfolding Per.integer_form
     in_wide v a b f =
         let i = if_out free (is_within wide_range v) _ a b f in
         if_in free (is_within wide_range v && (not (is_bounded (bounds_of (Some c))) || fits_128 v)) _ a b
         (and_from _ _ i.0 (ap (λ t. not (is_bounded (bounds_of (Some c))) || t) (wide_fits v i.0) ∙ or-true (not (is_bounded (bounds_of (Some c)))))) i.1
+
+    pub out_wide : (v : ℤ) (a b : Position) → Front free (Per.integer_form al (bounds_of (Some c)) wide_range v) a b → Front free (in_128_bits (under_constraint al c) v) a b
+    unfolding Per.integer_form
+    out_wide v a b f =
+        let i = if_out free (is_within wide_range v && (not (is_bounded (bounds_of (Some c))) || fits_128 v)) _ a b f in
+        if_in free (is_within wide_range v) _ a b (and_parts _ _ i.0).0 i.1
 
     -- a number under a constraint is the one that was read
     same_number : (v w : ℤ) (a b d : Position) → Front free (in_128_bits (under_constraint al c) v) a b → Front free (in_128_bits (under_constraint al c) w) a d → v ≡ w

@@ -1,6 +1,7 @@
 pub mod OctetFronts
 pub mod WholeFronts
 pub mod IntegerFronts
+pub mod FormFronts
 pub mod SmallFronts
 pub mod IndexFronts
 pub mod FieldFronts

@@ -216,6 +216,7 @@ fn read_offset(
     ensures only { IfErr result (Misses (freedoms rules)
         (Per.constrained (fronts.is_aligned rules) span) cursor.old) }
 {
+    // A span has at most 64 bits: that is said here, so that the compiler takes a word.
     if bits > 64 || rules.is_aligned() && span >= 255 {
         let number = read_constrained(cursor, rules, u128::from(span))?;
         return Ok(number as u64);
@@ -228,18 +229,19 @@ fn read_offset(
 ///
 /// # Errors
 ///
-/// `ValueConstraintNotSatisfied` if it is not between them, and the errors of a constrained whole number.
+/// Those of [`read_constrained`]: a number that is not between them has none.
 #[inline(always)]
-pub fn read_in_form(
+pub(crate) fn read_between_in_form(
     cursor: &mut Cursor<'_>,
     rules: PackedRules,
     form: &NumberForm,
 ) -> Result<i128, DecodeError>
     ensures ok { IfOk result (λ number. Front (freedoms rules)
-        (in_128_bits (Per.whole_number (fronts.is_aligned rules) (Some form.now.low) (Some form.now.high)) number) cursor.old
-        cursor.new) }
+        (in_128_bits (Per.whole_number (fronts.is_aligned rules) (Some form.now.low) (Some form.now.high)) number)
+        cursor.old cursor.new) }
     ensures only { IfErr result (Misses (freedoms rules)
-        (in_128_bits (Per.whole_number (fronts.is_aligned rules) (Some form.now.low) (Some form.now.high))) cursor.old) }
+        (in_128_bits (Per.whole_number (fronts.is_aligned rules) (Some form.now.low) (Some form.now.high)))
+        cursor.old) }
 {
     let above = read_offset(cursor, rules, form.span(), form.bits())?;
     Ok(form.low() + i128::from(above))

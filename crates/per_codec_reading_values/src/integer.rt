@@ -4,14 +4,16 @@ ghost use Rattle.asn1_model.specs.Per as Per;
 ghost use Rattle.asn1_model.specs.Schema as Asn1;
 ghost use Rattle.asn1_model.specs.Value as Asn1Value;
 ghost use Rattle.asn1_schema_constraints.specs.Terms.{bounds_of, held_of};
+ghost use Rattle.asn1_schema_forms.specs.Forms.{form_bounds};
 ghost use Rattle.per_codec_laws.specs.Takes.{Front};
 ghost use Rattle.per_codec_reading.specs.Fronts as fronts;
 ghost use Rattle.per_codec_reading.specs.Fronts.{freedoms, Misses};
 
-use crate::bounded::read_bounded;
+use crate::bounded::{read_between_in_form, read_bounded};
 use crate::number_octets::read_number_octets;
 use asn1_schema_constraints::Constraints;
 use asn1_schema_errors::{DecodeError, held_number, number_from_octets};
+use asn1_schema_forms::NumberForm;
 use asn1_values_integers::IntegerType;
 use per_codec_reading::{Cursor, PackedRules};
 use std::alloc::Global;
@@ -45,4 +47,26 @@ pub fn read_integer<I: IntegerType>(
     };
     let number = read_bounded(alloc, cursor, rules, constraint)?;
     held_number(number)
+}
+
+/// Reads an INTEGER (X.691 13) between two bounds, in its form.
+///
+/// # Errors
+///
+/// `Incomplete` if the bits end early, `ValueConstraintNotSatisfied` if the number is not between the bounds, and in
+/// strict rules `InvalidPadding` if a bit of padding is not zero, and `NotValidCanonicalEncoding` if the number has more
+/// octets than it needs.
+#[inline(always)]
+pub fn read_in_form(
+    cursor: &mut Cursor<'_>,
+    rules: PackedRules,
+    form: &NumberForm,
+) -> Result<i128, DecodeError>
+    ensures ok { IfOk result (λ x. Front (freedoms rules)
+        (Per.form (fronts.is_aligned rules) (Asn1.integer (form_bounds form.now) Asn1.wide_range)
+        (Asn1Value.number x)) cursor.old cursor.new) }
+    ensures only { IfErr result (Misses (freedoms rules)
+        (Per.form (fronts.is_aligned rules) (Asn1.integer (form_bounds form.now) Asn1.wide_range)) cursor.old) }
+{
+    read_between_in_form(cursor, rules, form)
 }

@@ -17,13 +17,12 @@ pub mod small;
 pub mod stretch;
 
 pub use bitmaps::read_bitmap;
-pub use bounded::read_in_form;
 pub use character_string::read_characters;
 pub use codes::string_of;
 pub use enumerated::read_item;
 pub use fields::Field;
 pub use indexes::read_alternative_index;
-pub use integer::read_integer;
+pub use integer::{read_in_form, read_integer};
 pub use open_type::skip_unknown;
 pub use small::read_normally_small;
 pub use stretch::Stretch;

@@ -12,6 +12,7 @@ pub mod Each
 pub mod Keyed
 pub mod NumberFieldLists
 pub mod BoundedFieldLists
+pub mod FormFieldLists
 pub mod IndexFieldLists
 pub mod OpenTypes
 pub mod StringFieldLists

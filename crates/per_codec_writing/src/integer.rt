@@ -1,8 +1,8 @@
 //! INTEGER (X.691 13).
 ghost use Rattle.std.specs.Prelude.{◌≡◌, true, MatchResult};
 ghost use Rattle.asn1_model.specs.Numbers.{is_within};
-ghost use Rattle.asn1_model.specs.Per.{form, semi_constrained, unconstrained, whole_number as number_form};
-ghost use Rattle.asn1_model.specs.Per.{with_extension_bit};
+ghost use Rattle.asn1_model.specs.Per.{form as type_form, semi_constrained, unconstrained, with_extension_bit};
+ghost use Rattle.asn1_model.specs.Per.{whole_number as number_form};
 ghost use Rattle.asn1_model.specs.Schema.{integer, wide_range};
 ghost use Rattle.asn1_model.specs.Value.{number as number_value};
 ghost use Rattle.asn1_schema_constraints.specs.Bounds.{admits_number, lower, upper};
@@ -134,10 +134,10 @@ pub fn push_integer<I: IntegerType>(
     value: &I,
 ) -> Result<(), EncodeError>
     ensures { MatchResult result (λ _. Adds
-        (field_list_at (form (is_aligned variant) (integer (bounds_of constraints.now.value)
+        (field_list_at (type_form (is_aligned variant) (integer (bounds_of constraints.now.value)
         (held_of constraints.now.value I.held)) (number_value (I.value value.now))) (place output.old))
         output.old output.new)
-        (Refuses (field_list_at (form (is_aligned variant)
+        (Refuses (field_list_at (type_form (is_aligned variant)
         (integer (bounds_of constraints.now.value) (held_of constraints.now.value I.held))
         (number_value (I.value value.now))) (place output.old))) }
 {
@@ -170,13 +170,15 @@ pub fn push_in_form(
     number: i128,
 ) -> Result<(), EncodeError>
     ensures { MatchResult result (λ _. Adds
-        (field_list_at (number_form (is_aligned variant) (Some form.now.low) (Some form.now.high) number) (place output.old))
-        output.old output.new)
-        (Refuses (field_list_at (number_form (is_aligned variant) (Some form.now.low) (Some form.now.high) number) (place output.old))) }
+        (field_list_at (type_form (is_aligned variant) (integer (form_bounds form.now) wide_range)
+        (number_value number)) (place output.old)) output.old output.new)
+        (Refuses (field_list_at (type_form (is_aligned variant) (integer (form_bounds form.now) wide_range)
+        (number_value number)) (place output.old))) }
 {
     if number < form.low() || form.high() < number {
         return Err(EncodeError::ValueConstraintNotSatisfied);
     }
+    let span = form.span();
     let offset = (number - form.low()) as u64;
-    push_offset(output, variant, form.span(), form.bits(), offset)
+    push_offset(output, variant, span, form.bits(), offset)
 }
