@@ -39,8 +39,8 @@ use per_codec_reading::boolean::{read_boolean, read_null};
 use per_codec_reading::completion::{read_completion, read_to_end};
 use per_codec_reading::{PackedRules, read_bit_string, read_object_identifier, read_utf8_string};
 use per_codec_reading_values::{
-    Stretch, read_alternative_index, read_bitmap, read_characters, read_in_form,
-    read_integer, read_item, skip_unknown,
+    Stretch, read_alternative_index, read_bitmap, read_characters, read_in_form, read_integer,
+    read_item, skip_unknown,
 };
 use std::alloc::Global;
 use std::borrow::CowSlice;

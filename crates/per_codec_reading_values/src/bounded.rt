@@ -229,7 +229,7 @@ fn read_offset(
 ///
 /// # Errors
 ///
-/// Those of [`read_constrained`]: a number that is not between them has none.
+/// `ValueConstraintNotSatisfied` if it is not between them, and the errors of a constrained whole number.
 #[inline(always)]
 pub(crate) fn read_between_in_form(
     cursor: &mut Cursor<'_>,

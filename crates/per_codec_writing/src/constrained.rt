@@ -76,7 +76,11 @@ pub fn push_constrained(
     Ok(())
 }
 
-/// The same for a span of 64 bits, which has this number of bits.
+/// Adds a constrained whole number of 0 to `span`, which has this number of bits (X.691 11.5).
+///
+/// # Errors
+///
+/// `OutOfMemory`.
 #[inline(always)]
 pub(crate) fn push_offset(
     output: &mut Packing,
