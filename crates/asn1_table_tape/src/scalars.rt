@@ -89,7 +89,7 @@ pub fn read_number<D: Decoder>(
 }
 
 /// INTEGER (X.680 19) in this form; its type is at an index.
-#[inline(always)]
+#[inline(never)]
 pub fn read_in_form<D: Decoder>(
     alloc: Global,
     decoder: &mut D,
