@@ -1,16 +1,15 @@
 -- The bits with which a number in the form of its bounds begins.
 use Rattle.std.specs.Prelude.{FitsSigned, ◌+ℤ◌, ◌-ℤ◌, ◌≤ℤ◌, ◌<ℤ◌}
 use Rattle.std.specs.Int.{w128}
-use Rattle.std.proofs.Common.{◌≡◌, ℕ, ◌^◌, ◌<◌, ◌≤◌, max, ℤ, pos, negsuc, Bool, false, inl, inr, Some, None, refl, sym, ◌∙◌, arith}
+use Rattle.std.proofs.Common.{◌≡◌, ℕ, ◌^◌, ◌<◌, ◌≤◌, max, ℤ, pos, negsuc, Bool, inl, inr, Some, None, refl, arith}
 use Rattle.std.proofs.lemmas.Int.{ints}
 use Rattle.std.proofs.lemmas.Bool.{cases_lt}
 use Rattle.std.proofs.Math.Nat.{pow-le-pow_right}
 use Rattle.asn1_model.specs.Schema.{wide_range, integer}
-use Rattle.asn1_model.specs.Value.{Value, number}
+use Rattle.asn1_model.specs.Value.{number}
 use Rattle.asn1_model.specs.Numbers.{octet_width, signed_octets}
 use Rattle.asn1_model.specs.Oer.{fixed_octets}
 use Rattle.asn1_model.specs.Per
-use Rattle.asn1_values_natives.specs.Octets.{plain}
 use Rattle.asn1_values_natives.proofs.Widths.{octet_width-octets, signed_octets-above}
 use Rattle.asn1_schema_constraints.specs.Widths.{fixed_width}
 use Rattle.asn1_schema_constraints.specs.declared.bounds.Bounded.TheVariants.{Range as Between}
@@ -22,7 +21,7 @@ use Rattle.asn1_schema_forms.specs.declared.number.NumberForm.{NumberForm}
 use Rattle.per_codec_laws.specs.Takes.{Position, Front}
 use Rattle.per_codec_laws.proofs.Fronts.{of_refused}
 use Rattle.per_codec_reading.specs.Fronts.{NoneStands}
-use Rattle.per_codec_reading_values.specs.Integers.{in_128_bits, under_constraint}
+use Rattle.per_codec_reading_values.specs.Integers.{in_128_bits}
 use Rattle.per_codec_reading_values.proofs.WholeFronts.{fits_wide, between_read, inextensible_read, inextensible_missed}
 use Rattle.per_codec_reading_values.proofs.IntegerFronts.{in_wide, out_wide}
 

@@ -53,9 +53,9 @@ pub fn read_integer<I: IntegerType>(
 ///
 /// # Errors
 ///
-/// `Incomplete` if the bits end early, `ValueConstraintNotSatisfied` if the number is not between the bounds, and in
-/// strict rules `InvalidPadding` if a bit of padding is not zero, and `NotValidCanonicalEncoding` if the number has more
-/// octets than it needs.
+/// `Incomplete` if the bits end early, `ValueConstraintNotSatisfied` if the number is not between the bounds, or the
+/// count of its octets is too large, and in strict rules `InvalidPadding` if a bit of padding is not zero, and
+/// `NotValidCanonicalEncoding` if the number has more octets than it needs.
 #[inline(always)]
 pub fn read_in_form(
     cursor: &mut Cursor<'_>,
