@@ -1,12 +1,8 @@
-//! The parser's state, and the parts of modules without components in them: names, values, types of a few words,
-//! constraints.
+//! The parser's state, and the parts of modules without types in them: names, values, types of a few words.
 #![tactic(auto, using(std::proofs::lemmas::Grind::common_steps))]
 
 mod braces;
-mod constraints;
-mod elements;
 mod enumerations;
-mod inner;
 mod parser;
 mod references;
 mod refusals;
@@ -15,9 +11,8 @@ mod strings;
 mod values;
 
 pub use braces::read_module_identifier;
-pub use constraints::{read_constraints, read_elements, read_parenthesized, read_specification};
 pub use parser::{MAXIMUM_DEPTH, Parser};
-pub use references::{read_qualifier, read_value_reference, skip_parameters};
+pub use references::{read_qualifier, read_value_reference, see_value, skip_parameters};
 pub use refusals::{Parsed, Refusal};
 pub use simple::read_simple;
-pub use values::{read_number, read_value, skip_exception};
+pub use values::{is_value_word, read_number, read_value, skip_exception};

@@ -33,25 +33,11 @@ pub fn skip_parameters(parser: &mut Parser<'_>) -> Parsed<Vec<ActualParameter>> 
     Ok(parameters)
 }
 
-/// The name of a value, after its module if that is given.
+/// The name of a value, after its module if that is given, with its actual parameters as braces.
 pub fn read_value_reference(parser: &mut Parser<'_>) -> Parsed<Reference> {
-    read_reference(parser, ItemKind::Identifier, Expected::Value)
-}
-
-/// The name of a type in a constraint, after its module if that is given.
-pub fn read_contained_reference(parser: &mut Parser<'_>) -> Parsed<Reference> {
-    read_reference(parser, ItemKind::Reference, Expected::Reference)
-}
-
-/// A name of this kind, after its module if that is given, with its actual parameters as braces.
-fn read_reference(
-    parser: &mut Parser<'_>,
-    kind: ItemKind,
-    expected: Expected,
-) -> Parsed<Reference> {
-    let module = read_qualifier(parser, kind)?;
-    if parser.peek() != kind {
-        return Err(parser.expected(expected));
+    let module = read_qualifier(parser, ItemKind::Identifier)?;
+    if parser.peek() != ItemKind::Identifier {
+        return Err(parser.expected(Expected::Value));
     }
     let name = parser.take_name()?;
     let parameters = skip_parameters(parser)?;

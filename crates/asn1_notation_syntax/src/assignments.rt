@@ -1,7 +1,8 @@
 //! Assignments (X.680 16, X.681 9 to 12, X.683 8).
 use crate::classes::{read_class_fields, see_object};
+use crate::constraints::read_specification;
 use crate::types::read_type;
-use asn1_notation_parsing::{MAXIMUM_DEPTH, Parsed, Parser, read_specification, read_value};
+use asn1_notation_parsing::{MAXIMUM_DEPTH, Parsed, Parser, read_value};
 use asn1_notation_tokens::{ItemKind, Symbol, Word};
 use asn1_notation_tree::{Assignment, AssignmentKind, Expected, Parameter, TypeIndex, TypeKind};
 

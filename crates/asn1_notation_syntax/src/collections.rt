@@ -1,7 +1,8 @@
 //! SEQUENCE, SET, SEQUENCE OF and SET OF (X.680 25 to 28).
 use crate::components::read_components;
+use crate::constraints::{read_elements, read_parenthesized};
 use crate::types::read_type;
-use asn1_notation_parsing::{Parsed, Parser, read_elements, read_parenthesized};
+use asn1_notation_parsing::{Parsed, Parser};
 use asn1_notation_tokens::{ItemKind, Symbol, Word};
 use asn1_notation_tree::{ConstraintIndex, Element, TypeKind};
 

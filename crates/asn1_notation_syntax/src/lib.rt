@@ -5,7 +5,11 @@ mod assignments;
 mod classes;
 mod collections;
 mod components;
+mod constraints;
+mod elements;
+mod inner;
 mod modules;
+mod parameters;
 mod reading;
 mod types;
 

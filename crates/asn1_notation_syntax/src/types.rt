@@ -1,13 +1,13 @@
 //! Types (X.680 17.1).
 use crate::collections::read_collection;
 use crate::components::read_components;
-use asn1_notation_parsing::{
-    Parsed, Parser, Refusal, read_constraints, read_number, read_qualifier, read_simple, read_value,
-};
+use crate::constraints::read_constraints;
+use crate::parameters::read_actual_parameters;
+use asn1_notation_parsing::{Parsed, Parser, Refusal, read_number, read_qualifier, read_simple};
 use asn1_notation_tokens::{ItemKind, Symbol, Word};
 use asn1_notation_tree::{
-    ActualParameter, Expected, Name, Reference, TagClass, Tagging, TaggingMode, TypeIndex,
-    TypeKind, TypeTerm, UnsupportedType,
+    Expected, Name, Reference, TagClass, Tagging, TaggingMode, TypeIndex, TypeKind, TypeTerm,
+    UnsupportedType,
 };
 
 /// A type that begins at the next item, nested at most this deep, with the constraints after it.
@@ -90,11 +90,7 @@ fn read_named(parser: &mut Parser<'_>, depth: usize) -> Parsed<TypeKind> {
         let fields = read_fields(parser)?;
         return Ok(TypeKind::Unsupported(UnsupportedType::Field(class, fields)));
     }
-    let parameters = if parser.sees(Symbol::LeftBrace) {
-        read_parameters(parser, depth)?
-    } else {
-        Vec::new(parser.alloc)
-    };
+    let parameters = read_actual_parameters(parser, depth)?;
     Ok(TypeKind::Reference(Reference {
         module,
         name,
@@ -115,38 +111,4 @@ fn read_fields(parser: &mut Parser<'_>) -> Parsed<Vec<Name>> {
         fields.push(parser.take_name()?)?;
     }
     Ok(fields)
-}
-
-/// Actual parameters in braces (X.683 9.5).
-#[cycle(types)]
-fn read_parameters(parser: &mut Parser<'_>, depth: usize) -> Parsed<Vec<ActualParameter>> {
-    parser.expect(Symbol::LeftBrace)?;
-    let mut parameters = Vec::new(parser.alloc);
-    for _ in 0..parser.left() {
-        parameters.push(read_parameter(parser, depth)?)?;
-        if !parser.eat(Symbol::Comma) {
-            break;
-        }
-    }
-    parser.end_list(Symbol::RightBrace)?;
-    Ok(parameters)
-}
-
-/// An actual parameter: a type with a capital letter, what is in braces, or else a value.
-#[cycle(types)]
-fn read_parameter(parser: &mut Parser<'_>, depth: usize) -> Parsed<ActualParameter> {
-    match parser.peek() {
-        ItemKind::Symbol(Symbol::LeftBrace) => {
-            let place = parser.next;
-            parser.skip_braces()?;
-            Ok(ActualParameter::Braces(place))
-        }
-        ItemKind::Word(Word::True | Word::False) => {
-            Ok(ActualParameter::Value(read_value(parser, depth)?))
-        }
-        ItemKind::Reference | ItemKind::Word(_) | ItemKind::Symbol(Symbol::LeftBracket) => {
-            Ok(ActualParameter::Type(read_type(parser, depth)?))
-        }
-        _ => Ok(ActualParameter::Value(read_value(parser, depth)?)),
-    }
 }

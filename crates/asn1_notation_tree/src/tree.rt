@@ -389,8 +389,7 @@ pub struct Reference {
     pub module: Option<Name>,
     /// The name.
     pub name: Name,
-    /// The actual parameters of a parameterised type (X.683 9), else none. Of a value or of a type in a constraint they
-    /// are kept as `Braces`.
+    /// The actual parameters of a parameterised type (X.683 9), else none. Those of a value are kept as `Braces`.
     pub parameters: Vec<ActualParameter>,
 }
 

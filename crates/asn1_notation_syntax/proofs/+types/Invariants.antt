@@ -1,4 +1,5 @@
--- Each function that reads a part of a type has a rank; the depth falls where a type is read in a type.
+-- Each function that reads a part of a type or of a constraint has a rank; the depth falls where a type is read in a type,
+-- and where elements of constraints are read in elements.
 use Rattle.std.proofs.Common.{◌+◌, ◌*◌}
 use Rattle.asn1_notation_syntax.proofs.+types.Given as goal
 
@@ -18,13 +19,49 @@ abbrev pub decreases-components::read_components : goal.decreases-components::re
 decreases-components::read_components l = 8 * l.depth + 4
 
 abbrev pub decreases-collections::read_collection : goal.decreases-collections::read_collection
-decreases-collections::read_collection l = 8 * l.depth + 5
+decreases-collections::read_collection l = 8 * l.depth + 6
 
-abbrev pub decreases-types::read_parameter : goal.decreases-types::read_parameter
-decreases-types::read_parameter l = 8 * l.depth + 1
+abbrev pub decreases-parameters::read_actual_parameter : goal.decreases-parameters::read_actual_parameter
+decreases-parameters::read_actual_parameter l = 8 * l.depth + 1
 
-abbrev pub decreases-types::read_parameters : goal.decreases-types::read_parameters
-decreases-types::read_parameters l = 8 * l.depth + 2
+abbrev pub decreases-parameters::read_actual_parameters : goal.decreases-parameters::read_actual_parameters
+decreases-parameters::read_actual_parameters l = 8 * l.depth + 2
 
 abbrev pub decreases-types::read_named : goal.decreases-types::read_named
 decreases-types::read_named l = 8 * l.depth + 3
+
+abbrev pub decreases-constraints::read_elements : goal.decreases-constraints::read_elements
+decreases-constraints::read_elements l = 8 * l.depth
+
+abbrev pub decreases-constraints::read_exclusion : goal.decreases-constraints::read_exclusion
+decreases-constraints::read_exclusion l = 8 * l.depth + 1
+
+abbrev pub decreases-constraints::read_intersection : goal.decreases-constraints::read_intersection
+decreases-constraints::read_intersection l = 8 * l.depth + 2
+
+abbrev pub decreases-constraints::read_union : goal.decreases-constraints::read_union
+decreases-constraints::read_union l = 8 * l.depth + 3
+
+abbrev pub decreases-constraints::read_specification : goal.decreases-constraints::read_specification
+decreases-constraints::read_specification l = 8 * l.depth + 4
+
+abbrev pub decreases-constraints::read_parenthesized : goal.decreases-constraints::read_parenthesized
+decreases-constraints::read_parenthesized l = 8 * l.depth + 5
+
+abbrev pub decreases-constraints::read_constraints : goal.decreases-constraints::read_constraints
+decreases-constraints::read_constraints l = 8 * l.depth + 6
+
+abbrev pub decreases-elements::read_contained : goal.decreases-elements::read_contained
+decreases-elements::read_contained l = 8 * l.depth + 3
+
+abbrev pub decreases-elements::read_included : goal.decreases-elements::read_included
+decreases-elements::read_included l = 8 * l.depth + 4
+
+abbrev pub decreases-elements::read_words : goal.decreases-elements::read_words
+decreases-elements::read_words l = 8 * l.depth + 5
+
+abbrev pub decreases-inner::read_component_constraint : goal.decreases-inner::read_component_constraint
+decreases-inner::read_component_constraint l = 8 * l.depth + 6
+
+abbrev pub decreases-inner::read_inner : goal.decreases-inner::read_inner
+decreases-inner::read_inner l = 8 * l.depth + 7

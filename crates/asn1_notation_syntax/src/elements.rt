@@ -1,12 +1,12 @@
-//! Elements of constraints without constraints in them (X.680 51, X.682 9 to 11).
-use crate::parser::Parser;
-use crate::references::read_contained_reference;
-use crate::refusals::Parsed;
-use crate::simple::read_simple;
-use crate::values::{is_value_word, read_value};
+//! Elements of constraints without constraints in them, unless in actual parameters (X.680 51, X.682 9 to 11).
+use crate::parameters::read_actual_parameters;
+use asn1_notation_parsing::{
+    Parsed, Parser, is_value_word, read_qualifier, read_simple, read_value,
+};
 use asn1_notation_tokens::{ItemKind, Symbol, Word};
 use asn1_notation_tree::{
-    ConstraintKind, Expected, Limit, RangeEnd, TypeIndex, TypeKind, TypeTerm, UnseenConstraint,
+    ConstraintKind, Expected, Limit, RangeEnd, Reference, TypeIndex, TypeKind, TypeTerm,
+    UnseenConstraint,
 };
 
 /// Whether the braces at the next item hold information objects, which are not named each.
@@ -30,11 +30,15 @@ pub fn read_table(parser: &mut Parser<'_>) -> Parsed<ConstraintKind> {
     Ok(ConstraintKind::Unseen(UnseenConstraint::Table))
 }
 
-/// The values of a type that is named (X.680 51.3).
-pub fn read_contained(parser: &mut Parser<'_>) -> Parsed<ConstraintKind> {
+/// The values of a type that is named, with its actual parameters (X.680 51.3, X.683 9).
+#[cycle(types)]
+pub fn read_contained(parser: &mut Parser<'_>, depth: usize) -> Parsed<ConstraintKind> {
     let place = parser.next;
-    let reference = read_contained_reference(parser)?;
-    let kind = TypeKind::Reference(reference);
+    let kind = TypeKind::Reference(Reference {
+        module: read_qualifier(parser, ItemKind::Reference)?,
+        name: parser.reference()?,
+        parameters: read_actual_parameters(parser, depth)?,
+    });
     Ok(ConstraintKind::Contained(add_contained(parser, place, kind)?))
 }
 
@@ -49,6 +53,7 @@ fn add_contained(parser: &mut Parser<'_>, place: usize, kind: TypeKind) -> Parse
 }
 
 /// Elements that begin with a reserved word.
+#[cycle(types)]
 pub fn read_words(parser: &mut Parser<'_>, word: Word, depth: usize) -> Parsed<ConstraintKind> {
     match word {
         Word::Pattern => {
@@ -73,16 +78,17 @@ pub fn read_words(parser: &mut Parser<'_>, word: Word, depth: usize) -> Parsed<C
         }
         Word::Includes => {
             parser.advance();
-            read_included(parser)
+            read_included(parser, depth)
         }
         Word::Min => read_values(parser, depth),
         _ if is_value_word(word) => read_values(parser, depth),
-        _ => read_included(parser),
+        _ => read_included(parser, depth),
     }
 }
 
-/// The values of a type without types in it (X.680 51.3).
-fn read_included(parser: &mut Parser<'_>) -> Parsed<ConstraintKind> {
+/// The values of a type that is named, or of one without types in it (X.680 51.3).
+#[cycle(types)]
+fn read_included(parser: &mut Parser<'_>, depth: usize) -> Parsed<ConstraintKind> {
     let place = parser.next;
     match parser.peek() {
         ItemKind::Word(Word::All | Word::Max) => Err(parser.expected(Expected::Constraint)),
@@ -90,7 +96,7 @@ fn read_included(parser: &mut Parser<'_>) -> Parsed<ConstraintKind> {
             let kind = read_simple(parser, word)?;
             Ok(ConstraintKind::Contained(add_contained(parser, place, kind)?))
         }
-        _ => read_contained(parser),
+        _ => read_contained(parser, depth),
     }
 }
 

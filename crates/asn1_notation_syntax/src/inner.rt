@@ -1,12 +1,11 @@
 //! Constraints of the parts of a value (X.680 51.8), which neither PER nor OER sees.
 use crate::constraints::read_parenthesized;
-use crate::parser::Parser;
-use crate::refusals::Parsed;
+use asn1_notation_parsing::{Parsed, Parser};
 use asn1_notation_tokens::{Symbol, Word};
 use asn1_notation_tree::{ComponentConstraint, PresenceConstraint, UnseenConstraint};
 
 /// What comes after WITH: COMPONENT and a constraint, or COMPONENTS and those of each.
-#[cycle(constraints)]
+#[cycle(types)]
 pub fn read_inner(parser: &mut Parser<'_>, depth: usize) -> Parsed<UnseenConstraint> {
     if parser.eat_word(Word::Component) {
         let constraint = read_parenthesized(parser, depth)?;
@@ -29,7 +28,7 @@ pub fn read_inner(parser: &mut Parser<'_>, depth: usize) -> Parsed<UnseenConstra
 }
 
 /// The name of a component, its constraint if there is one, and whether it is there if that is given.
-#[cycle(constraints)]
+#[cycle(types)]
 fn read_component_constraint(parser: &mut Parser<'_>, depth: usize) -> Parsed<ComponentConstraint> {
     let name = parser.identifier()?;
     let constraint = if parser.sees(Symbol::LeftParenthesis) {

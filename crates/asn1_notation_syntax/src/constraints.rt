@@ -3,14 +3,12 @@ ghost use Rattle.std.specs.Prelude.{◌≡◌};
 
 use crate::elements::{read_contained, read_table, read_values, read_words, see_table};
 use crate::inner::read_inner;
-use crate::parser::Parser;
-use crate::references::see_value;
-use crate::refusals::{Parsed, Refusal};
-use crate::values::skip_exception;
+use asn1_notation_parsing::{Parsed, Parser, Refusal, see_value, skip_exception};
 use asn1_notation_tokens::{ItemKind, Symbol, Word};
 use asn1_notation_tree::{ConstraintIndex, ConstraintKind};
 
 /// Constraints in parentheses, one after the other, as many as there are; they are added to the list.
+#[cycle(types)]
 pub fn read_constraints(
     parser: &mut Parser<'_>,
     depth: usize,
@@ -26,7 +24,7 @@ pub fn read_constraints(
 }
 
 /// A constraint in parentheses (X.680 49.6).
-#[cycle(constraints)]
+#[cycle(types)]
 pub fn read_parenthesized(parser: &mut Parser<'_>, depth: usize) -> Parsed<ConstraintIndex> {
     parser.expect(Symbol::LeftParenthesis)?;
     let constraint = read_specification(parser, depth)?;
@@ -36,7 +34,7 @@ pub fn read_parenthesized(parser: &mut Parser<'_>, depth: usize) -> Parsed<Const
 }
 
 /// A root, and an extension marker and additions if they are there (X.680 50.1).
-#[cycle(constraints)]
+#[cycle(types)]
 pub fn read_specification(parser: &mut Parser<'_>, depth: usize) -> Parsed<ConstraintIndex> {
     let place = parser.next;
     let root = read_union(parser, depth)?;
@@ -53,7 +51,7 @@ pub fn read_specification(parser: &mut Parser<'_>, depth: usize) -> Parsed<Const
 }
 
 /// Elements joined by UNION, or ALL EXCEPT elements (X.680 50.1).
-#[cycle(constraints)]
+#[cycle(types)]
 fn read_union(parser: &mut Parser<'_>, depth: usize) -> Parsed<ConstraintIndex> {
     let place = parser.next;
     if parser.eat_word(Word::All) {
@@ -77,7 +75,7 @@ fn read_union(parser: &mut Parser<'_>, depth: usize) -> Parsed<ConstraintIndex> 
 }
 
 /// Elements joined by INTERSECTION (X.680 50.1).
-#[cycle(constraints)]
+#[cycle(types)]
 fn read_intersection(parser: &mut Parser<'_>, depth: usize) -> Parsed<ConstraintIndex> {
     let place = parser.next;
     let first = read_exclusion(parser, depth)?;
@@ -96,7 +94,7 @@ fn read_intersection(parser: &mut Parser<'_>, depth: usize) -> Parsed<Constraint
 }
 
 /// Elements, and EXCEPT others if that is there (X.680 50.1).
-#[cycle(constraints)]
+#[cycle(types)]
 fn read_exclusion(parser: &mut Parser<'_>, depth: usize) -> Parsed<ConstraintIndex> {
     let place = parser.next;
     let included = read_elements(parser, depth)?;
@@ -112,7 +110,7 @@ fn read_exclusion(parser: &mut Parser<'_>, depth: usize) -> Parsed<ConstraintInd
 /// # Errors
 ///
 /// The first item that the notation does not allow there, or that is nested deeper; and `OutOfMemory`.
-#[cycle(constraints)]
+#[cycle(types)]
 pub fn read_elements(parser: &mut Parser<'_>, depth: usize) -> Parsed<ConstraintIndex>
     ensures { depth ≡ 0 → result ≡ Err (Refusal.TooDeep parser.old.next) }
 {
@@ -142,7 +140,7 @@ pub fn read_elements(parser: &mut Parser<'_>, depth: usize) -> Parsed<Constraint
         }
         ItemKind::Symbol(Symbol::LeftBrace) if see_table(parser) => read_table(parser)?,
         ItemKind::Word(word) => read_words(parser, word, inner)?,
-        ItemKind::Reference if !see_value(parser) => read_contained(parser)?,
+        ItemKind::Reference if !see_value(parser) => read_contained(parser, inner)?,
         _ => read_values(parser, inner)?,
     };
     parser.add_constraint(place, kind)
