@@ -17,6 +17,9 @@ use std::str;
 /// How many levels of constraints are followed.
 const MOST_LEVELS: u32 = 64;
 
+/// How many contained subtypes are followed in the constraints of a type, which may name one type again and again.
+const MOST_CONTAINED: u32 = 4096;
+
 /// What is looked for in a constraint.
 #[derive(Clone, Copy, PartialEq, Eq)]
 pub enum Aspect {
@@ -35,8 +38,8 @@ pub enum Aspect {
 ///
 /// # Errors
 ///
-/// `TooDeep` at a constraint in 64 others, `ValueOfOtherType` at a value that is no text or no single character. Those
-/// of `integer_of`, `settled` and `base_of`.
+/// `TooDeep` at a constraint in 64 others, and at a contained subtype after 4,096 others; `ValueOfOtherType` at a value
+/// that is no text or no single character. Those of `integer_of`, `settled` and `base_of`.
 pub fn visible(
     alloc: Global,
     files: &mut Files<'_, '_>,
@@ -147,6 +150,8 @@ struct Terms<'a> {
     terms: Vec<ConstraintTerm>,
     /// The values in them, without those of contained types.
     written: Vec<Written>,
+    /// How many contained subtypes were followed.
+    contained: u32,
 }
 
 impl<'a> Terms<'a> {
@@ -162,6 +167,7 @@ impl<'a> Terms<'a> {
             numbers,
             terms: Vec::new(alloc),
             written: Vec::new(alloc),
+            contained: 0,
         }
     }
 
@@ -233,7 +239,8 @@ impl<'a> Terms<'a> {
             ConstraintKind::Size(inner) if aspect == Aspect::Sizes => {
                 self.add_constraint(files, scope, *inner, below.with(Aspect::Numbers))
             }
-            ConstraintKind::From(inner) if aspect == Aspect::Alphabet => {
+            ConstraintKind::From(inner)
+                if aspect == Aspect::Alphabet || aspect == Aspect::Characters => {
                 self.add_constraint(files, scope, *inner, below.with(Aspect::Characters))
             }
             ConstraintKind::Contained(inner) => self.add_contained(files, scope, *inner, below),
@@ -268,7 +275,7 @@ impl<'a> Terms<'a> {
         }
     }
 
-    /// Adds the values of a contained subtype (X.680 51.3).
+    /// Adds the values of a contained subtype (X.680 51.3): in FROM, their characters (X.680 51.7).
     #[cycle(constraints)]
     fn add_contained(
         &mut self,
@@ -278,6 +285,10 @@ impl<'a> Terms<'a> {
         sought: Sought,
     ) -> Result<Option<usize>, NotationError> {
         let base = base_of(self.alloc, files, TypeUse { scope, index })?;
+        if self.contained >= MOST_CONTAINED {
+            return Err(base.error(Problem::TooDeep));
+        }
+        self.contained += 1;
         let count = self.written.len();
         let roots = self.add_all(files, base.constraints.as_slice(), sought)?;
         self.written.truncate(count);
