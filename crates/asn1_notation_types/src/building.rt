@@ -2,7 +2,7 @@
 use crate::defaults::Defaults;
 use crate::events::fixed_size;
 use crate::parts::{is_last_of_group, is_required, root_order};
-use crate::tables::{OpenTypes, TableOptions};
+use crate::tables::{NamedBits, OpenTypes, TableOptions};
 use asn1_notation_components::{
     Part, Parts, TaggedPart, alternatives_of, check_sequence, check_set, parts_of, tags_of_part,
 };
@@ -314,7 +314,7 @@ impl<'a, 'i> Building<'a, 'i> {
         Ok(TypeNode::Enumerated(table))
     }
 
-    /// BIT STRING (X.680 22). With named bits its size must be fixed: the zeros at its end do not count (X.680 22.7).
+    /// BIT STRING (X.680 22). With named bits its size must be fixed, unless zeros at the end are kept (X.680 22.7).
     fn bit_string(
         &mut self,
         base: &Base<'_>,
@@ -324,7 +324,8 @@ impl<'a, 'i> Building<'a, 'i> {
         self.number_names(base, bits, names)?;
         self.check_bits(base, bits)?;
         let sizes = self.sizes(base)?;
-        if !bits.is_empty() && fixed_size(&sizes).is_none() {
+        let is_fixed = bits.is_empty() || fixed_size(&sizes).is_some();
+        if !is_fixed && self.options.named_bits == NamedBits::AreRefused {
             return Err(base.error(Problem::NamedBits));
         }
         Ok(TypeNode::BitString(sizes))

@@ -30,6 +30,16 @@ pub enum OpenTypes {
     AreOctets,
 }
 
+/// What becomes of a BIT STRING with named bits and without a fixed size, of whose values zeros at the end are no part
+/// (X.680 22.7).
+#[derive(Clone, Copy, Debug, PartialEq, Eq)]
+pub enum NamedBits {
+    /// It is refused.
+    AreRefused,
+    /// It is understood as one without names: zeros at the end are kept as they are sent.
+    AreAsSent,
+}
+
 /// How modules are understood.
 #[derive(Clone, Copy, Debug, PartialEq, Eq)]
 pub struct TableOptions {
@@ -37,14 +47,17 @@ pub struct TableOptions {
     pub additions: Additions,
     /// What becomes of open types.
     pub open_types: OpenTypes,
+    /// What becomes of named bits without a fixed size.
+    pub named_bits: NamedBits,
 }
 
 impl From<Additions> for TableOptions {
-    /// Open types are refused.
+    /// Open types, and named bits without a fixed size, are refused.
     fn from(additions: Additions) -> Self {
         TableOptions {
             additions,
             open_types: OpenTypes::AreRefused,
+            named_bits: NamedBits::AreRefused,
         }
     }
 }
