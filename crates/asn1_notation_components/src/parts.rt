@@ -325,7 +325,7 @@ pub fn parts_of<'a>(
     check_names(alloc, scope, &written)?;
     let module = files.module(scope);
     let environment = module.map_or(TagDefault::Explicit, |module| environment_of(module.tags));
-    let is_implied = module.map_or(false, |module| module.is_extensibility_implied);
+    let is_implied = files.implies_extension(scope);
     let are_added_tagged = are_added_tagged.as_slice();
     let mut are_tagged = are_root_tagged;
     if let Some(index) = misplaced_tag(environment, are_tagged.as_slice(), are_added_tagged) {

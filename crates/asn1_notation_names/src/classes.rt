@@ -81,7 +81,7 @@ pub fn type_of_field(
 }
 
 /// Whether a class is one of those that each module has (X.681 annexes A and B).
-fn is_built_in(class: &Reference) -> bool {
+pub(crate) fn is_built_in(class: &Reference) -> bool {
     let name = class.name.text.as_str();
     class.module.is_none() && (name == "TYPE-IDENTIFIER" || name == "ABSTRACT-SYNTAX")
 }

@@ -50,6 +50,9 @@ pub enum Problem {
     /// More parameterised types with their actual parameters than are followed.
     #[error("there are more than 4096 parameterised types with other actual parameters")]
     TooManyInstances,
+    /// More contained subtypes in the constraints of a type than are followed (X.680 51.3).
+    #[error("the constraints of a type have more than 4096 contained subtypes")]
+    TooManyContained,
     /// A type that tables do not hold.
     #[error("this type is not supported")]
     UnsupportedType,

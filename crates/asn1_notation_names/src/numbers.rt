@@ -4,6 +4,7 @@ ghost use Rattle.std.specs.Prelude.{◌≡◌};
 use crate::errors::{NotationError, Problem};
 use crate::instances::{Given, given_for};
 use crate::items::Numbers;
+use crate::references::defined_type;
 use crate::scopes::{Files, Scope, Symbol, TypeUse};
 use asn1_notation_tree::{
     AssignmentKind, Name, NamedNumber, Reference, TypeKind, ValueIndex, ValueKind,
@@ -69,7 +70,59 @@ pub fn value_named(
     let defined = defined_value(files, symbol);
     let (governor, at) = defined.map_err(|problem| scope.error(name.place, problem))?;
     check_governor(files, governor, at)?;
-    Ok(at)
+    governed(files, governor, at)
+}
+
+/// A value of an assignment or of a parameter, by its governor: that of a named number of an INTEGER, if it is the name
+/// of one (X.680 19.10).
+///
+/// # Errors
+///
+/// Those of `Files::value_term` and `Files::type_term`.
+pub fn governed(
+    files: &Files<'_, '_>,
+    governor: TypeUse,
+    value: ValueUse,
+) -> Result<ValueUse, NotationError> {
+    let ValueKind::Reference(reference) = &files.value_term(value.scope, value.index)?.kind else {
+        return Ok(value);
+    };
+    if reference.module.is_some() {
+        return Ok(value);
+    }
+    let mut at = governor;
+    for _ in 0..MOST_STEPS {
+        match &files.type_term(at)?.kind {
+            TypeKind::Integer(numbers) => {
+                return Ok(
+                    match named(numbers.as_slice(), reference.name.text.as_str()) {
+                        Some(number) => ValueUse {
+                            scope: at.scope,
+                            index: number.number,
+                        },
+                        None => value,
+                    },
+                );
+            }
+            TypeKind::Tagged(_, inner) => at.index = *inner,
+            TypeKind::Reference(reference) => match type_named(files, at.scope, reference) {
+                Some(next) => at = next,
+                None => return Ok(value),
+            },
+            _ => return Ok(value),
+        }
+    }
+    Ok(value)
+}
+
+/// The type that a name stands for, if it stands for one without parameters.
+fn type_named(files: &Files<'_, '_>, scope: Scope, reference: &Reference) -> Option<TypeUse> {
+    if !reference.parameters.is_empty() {
+        return None;
+    }
+    let module = reference.module.as_ref();
+    let found = files.find(scope, module, &reference.name, Problem::UnknownType);
+    defined_type(files, found.ok()?)
 }
 
 /// Refuses a value in a notation that values of its governor, the type of an assignment or of a parameter, do not have

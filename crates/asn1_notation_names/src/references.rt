@@ -1,8 +1,8 @@
 //! What references to types stand for (X.680 14.1, X.683 9).
-use crate::classes::class_named;
+use crate::classes::{class_named, is_built_in};
 use crate::errors::{NotationError, Problem};
 use crate::instances::{Given, Key, given_for, instance_with, value_key};
-use crate::numbers::{ValueUse, check_governor};
+use crate::numbers::{ValueUse, check_governor, governed};
 use crate::scopes::{Files, Scope, Symbol, TypeUse};
 use asn1_notation_tree::{
     ActualParameter, AssignmentKind, Parameter, Reference, TypeKind, ValueKind,
@@ -44,7 +44,7 @@ pub fn referenced(
 }
 
 /// The type that an assignment defines.
-fn defined_type(files: &Files<'_, '_>, symbol: Symbol) -> Option<TypeUse> {
+pub(crate) fn defined_type(files: &Files<'_, '_>, symbol: Symbol) -> Option<TypeUse> {
     match &files.assignment(symbol)?.kind {
         AssignmentKind::Type(index) | AssignmentKind::ValueSet(index, _) => Some(TypeUse {
             scope: symbol.scope,
@@ -97,18 +97,34 @@ fn instance_of(
     let mut keys = Vec::new(files.alloc);
     keys.push(Key::Definition(symbol))?;
     for (parameter, actual) in parameters.iter().zip(&reference.parameters) {
-        let one = match class_of(files, symbol.scope, parameters, parameter)? {
-            Some(_) => objects_by(scope, place, parameter, actual)?,
-            None => given_by(files, scope, place, parameter, actual)?,
+        let one = if has_class(files, symbol.scope, parameters, parameter)? {
+            objects_by(scope, place, parameter, actual)?
+        } else {
+            given_by(files, scope, place, parameter, actual)?
         };
-        if let (Given::Value(value), Some(index)) = (one, parameter.governor) {
-            let scope = symbol.scope;
-            check_governor(files, TypeUse { scope, index }, value)?;
-        }
+        let one = by_governor(files, symbol.scope, parameter, one)?;
         keys.push(key_of(files, one, levels - 1)?)?;
         given.push(one)?;
     }
     Ok(Some(instance_with(files, scope, place, symbol, given, keys)?))
+}
+
+/// What is given for a parameter of an assignment in a module, by the governor of the parameter if it is a value
+/// (X.683 9.6).
+fn by_governor(
+    files: &Files<'_, '_>,
+    scope: Scope,
+    parameter: &Parameter,
+    given: Given,
+) -> Result<Given, NotationError> {
+    match (given, parameter.governor) {
+        (Given::Value(value), Some(index)) => {
+            let governor = TypeUse { scope, index };
+            check_governor(files, governor, value)?;
+            Ok(Given::Value(governed(files, governor, value)?))
+        }
+        _ => Ok(given),
+    }
 }
 
 /// What an actual parameter is, however it is written.
@@ -142,25 +158,24 @@ fn type_key(
     Err(start.error(files, Problem::Circular))
 }
 
-/// The class that governs a parameter of an assignment in a module, if one does (X.683 8.3). A governor that is a
-/// parameter of the assignment itself is a type.
-fn class_of(
+/// Whether a class governs a parameter of an assignment in a module (X.683 8.3). A governor that is a parameter of the
+/// assignment itself is a type.
+fn has_class(
     files: &Files<'_, '_>,
     scope: Scope,
     parameters: &[Parameter],
     parameter: &Parameter,
-) -> Result<Option<Symbol>, NotationError> {
+) -> Result<bool, NotationError> {
     let Some(index) = parameter.governor else {
-        return Ok(None);
+        return Ok(false);
     };
     match &files.type_term(TypeUse { scope, index })?.kind {
-        TypeKind::Reference(reference) if !is_parameter(parameters, reference) => class_named(
-            files,
-            scope,
-            reference,
-            Problem::UnknownType,
-        ),
-        _ => Ok(None),
+        TypeKind::Reference(reference) if is_built_in(reference) => Ok(true),
+        TypeKind::Reference(reference) if !is_parameter(parameters, reference) => {
+            let class = class_named(files, scope, reference, Problem::UnknownType)?;
+            Ok(class.is_some())
+        }
+        _ => Ok(false),
     }
 }
 

@@ -296,6 +296,14 @@ impl<'a, 'i> Files<'a, 'i> {
         module_in(self.files, scope)
     }
 
+    /// Whether a module implies an extension marker in each type that may have one and has none (X.680 13.4).
+    pub fn implies_extension(&self, scope: Scope) -> bool {
+        match self.module(scope) {
+            Some(module) => module.is_extensibility_implied,
+            None => false,
+        }
+    }
+
     /// An assignment, if the files have it.
     pub fn assignment(&self, symbol: Symbol) -> Option<&'a Assignment> {
         self.module(symbol.scope)?.assignments.get(symbol.index)

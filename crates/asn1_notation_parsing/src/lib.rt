@@ -12,7 +12,9 @@ mod values;
 
 pub use braces::read_module_identifier;
 pub use parser::{MAXIMUM_DEPTH, Parser};
-pub use references::{read_qualifier, read_value_reference, see_value, skip_parameters};
+pub use references::{
+    read_qualifier, read_value_reference, see_selection, see_value, skip_parameters,
+};
 pub use refusals::{Parsed, Refusal};
 pub use simple::read_simple;
 pub use values::{is_value_word, read_number, read_value, skip_exception};

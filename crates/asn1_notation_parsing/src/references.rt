@@ -23,6 +23,14 @@ pub fn see_value(parser: &Parser<'_>) -> bool {
         && parser.peek_after(2) == ItemKind::Identifier
 }
 
+/// Whether the next items are an identifier and `<`, which begin a selection type (X.680 30.1), and no open end of a
+/// range.
+pub fn see_selection(parser: &Parser<'_>) -> bool {
+    parser.peek() == ItemKind::Identifier
+        && parser.peek_after(1) == ItemKind::Symbol(Symbol::Less)
+        && parser.peek_after(2) != ItemKind::Symbol(Symbol::Range)
+}
+
 /// The actual parameters at the next item, if there are any, as braces.
 pub fn skip_parameters(parser: &mut Parser<'_>) -> Parsed<Vec<ActualParameter>> {
     let mut parameters = Vec::new(parser.alloc);

@@ -113,13 +113,16 @@ fn unsupported_word(word: Word) -> Option<UnsupportedType> {
         Word::Real => Some(UnsupportedType::Real),
         Word::UtcTime => Some(UnsupportedType::UtcTime),
         Word::GeneralizedTime => Some(UnsupportedType::GeneralizedTime),
-        Word::Time | Word::Date | Word::TimeOfDay | Word::DateTime | Word::Duration => {
-            Some(UnsupportedType::Time)
-        }
+        Word::Time => Some(UnsupportedType::Time),
+        Word::Date => Some(UnsupportedType::Date),
+        Word::TimeOfDay => Some(UnsupportedType::TimeOfDay),
+        Word::DateTime => Some(UnsupportedType::DateTime),
+        Word::Duration => Some(UnsupportedType::Duration),
         Word::ObjectDescriptor => Some(UnsupportedType::ObjectDescriptor),
         Word::External => Some(UnsupportedType::External),
         Word::RelativeOid => Some(UnsupportedType::RelativeObjectIdentifier),
-        Word::OidIri | Word::RelativeOidIri => Some(UnsupportedType::InternationalizedIdentifier),
+        Word::OidIri => Some(UnsupportedType::InternationalizedIdentifier),
+        Word::RelativeOidIri => Some(UnsupportedType::RelativeInternationalizedIdentifier),
         _ => None,
     }
 }

@@ -38,8 +38,9 @@ pub enum Aspect {
 ///
 /// # Errors
 ///
-/// `TooDeep` at a constraint in 64 others, and at a contained subtype after 4,096 others; `ValueOfOtherType` at a value
-/// that is no text or no single character. Those of `integer_of`, `settled` and `base_of`.
+/// `TooDeep` at a constraint in 64 others, `TooManyContained` at a contained subtype after 4,096 others;
+/// `ValueOfOtherType` at a value that is no text or no single character. Those of `integer_of`, `settled` and
+/// `base_of`.
 pub fn visible(
     alloc: Global,
     files: &mut Files<'_, '_>,
@@ -105,11 +106,14 @@ pub fn has_number(set: &NumberSet, number: i128) -> bool {
         .any(|interval| interval.meet(one).has_number())
 }
 
-/// What is looked for in a constraint, and in how many levels of constraints.
+/// What is looked for in a constraint.
 #[derive(Clone, Copy)]
 struct Sought {
     aspect: Aspect,
+    /// In how many levels of constraints.
     levels: u32,
+    /// Whether in a contained subtype, whose extension markers do not count (X.680 50.9).
+    is_contained: bool,
 }
 
 impl Sought {
@@ -118,6 +122,7 @@ impl Sought {
         Sought {
             aspect,
             levels: MOST_LEVELS,
+            is_contained: false,
         }
     }
 
@@ -125,10 +130,7 @@ impl Sought {
     fn with(self, aspect: Aspect) -> Self
         ensures { result.levels ≡ self.levels }
     {
-        Sought {
-            aspect,
-            levels: self.levels,
-        }
+        Sought { aspect, ..self }
     }
 }
 
@@ -224,13 +226,13 @@ impl<'a> Terms<'a> {
         sought: Sought,
     ) -> Result<Option<usize>, NotationError> {
         let term = files.constraint_term(scope, index)?;
-        let Sought { aspect, levels } = sought;
-        if levels == 0 {
+        let aspect = sought.aspect;
+        if sought.levels == 0 {
             return Err(scope.error(term.place, Problem::TooDeep));
         }
         let below = Sought {
-            aspect,
-            levels: levels - 1,
+            levels: sought.levels - 1,
+            ..sought
         };
         match &term.kind {
             ConstraintKind::Extensible(root, _) => self.add_extensible(files, scope, *root, below),
@@ -254,7 +256,7 @@ impl<'a> Terms<'a> {
         }
     }
 
-    /// Adds a root before an extension marker.
+    /// Adds a root before an extension marker, with the marker unless it does not count.
     #[cycle(constraints)]
     fn add_extensible(
         &mut self,
@@ -264,18 +266,19 @@ impl<'a> Terms<'a> {
         sought: Sought,
     ) -> Result<Option<usize>, NotationError> {
         match self.add_constraint(files, scope, root, sought)? {
-            None => Ok(None),
-            Some(root) => {
+            Some(root) if !sought.is_contained => {
                 let extensible = ConstraintTerm::Extensible {
                     root,
                     additions: None,
                 };
                 Ok(Some(self.add(extensible)?))
             }
+            root => Ok(root),
         }
     }
 
-    /// Adds the values of a contained subtype (X.680 51.3): in FROM, their characters (X.680 51.7).
+    /// Adds the values of a contained subtype (X.680 51.3), of those with an extension marker the root: in FROM, their
+    /// characters (X.680 51.7).
     #[cycle(constraints)]
     fn add_contained(
         &mut self,
@@ -284,13 +287,18 @@ impl<'a> Terms<'a> {
         index: usize,
         sought: Sought,
     ) -> Result<Option<usize>, NotationError> {
-        let base = base_of(self.alloc, files, TypeUse { scope, index })?;
+        let at = TypeUse { scope, index };
         if self.contained >= MOST_CONTAINED {
-            return Err(base.error(Problem::TooDeep));
+            return Err(at.error(files, Problem::TooManyContained));
         }
         self.contained += 1;
+        let base = base_of(self.alloc, files, at)?;
         let count = self.written.len();
-        let roots = self.add_all(files, base.constraints.as_slice(), sought)?;
+        let inside = Sought {
+            is_contained: true,
+            ..sought
+        };
+        let roots = self.add_all(files, base.constraints.as_slice(), inside)?;
         self.written.truncate(count);
         self.add_meet(roots)
     }

@@ -81,7 +81,12 @@ fn unsupported_number(unsupported: &UnsupportedType) -> Option<u32> {
         UnsupportedType::UtcTime => Some(23),
         UnsupportedType::GeneralizedTime => Some(24),
         UnsupportedType::UnrestrictedCharacterString => Some(29),
+        UnsupportedType::Date => Some(31),
+        UnsupportedType::TimeOfDay => Some(32),
+        UnsupportedType::DateTime => Some(33),
+        UnsupportedType::Duration => Some(34),
         UnsupportedType::InternationalizedIdentifier => Some(35),
+        UnsupportedType::RelativeInternationalizedIdentifier => Some(36),
         UnsupportedType::Any | UnsupportedType::Field(..) | UnsupportedType::Selection(..) => None,
     }
 }

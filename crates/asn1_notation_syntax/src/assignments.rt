@@ -1,5 +1,5 @@
 //! Assignments (X.680 16, X.681 9 to 12, X.683 8).
-use crate::classes::{read_class_fields, see_object};
+use crate::classes::{read_built_in, read_class_fields, see_built_in, see_object};
 use crate::constraints::read_specification;
 use crate::types::read_type;
 use asn1_notation_parsing::{MAXIMUM_DEPTH, Parsed, Parser, read_value};
@@ -67,6 +67,9 @@ fn read_type_assignment(parser: &mut Parser<'_>) -> Parsed<AssignmentKind> {
     if parser.eat_word(Word::Class) {
         return Ok(AssignmentKind::ObjectClass(read_class_fields(parser)?));
     }
+    if see_built_in(parser) {
+        return Ok(AssignmentKind::ObjectClass(read_built_in(parser)?));
+    }
     Ok(AssignmentKind::Type(read_type(parser, MAXIMUM_DEPTH)?))
 }
 
@@ -74,7 +77,7 @@ fn read_type_assignment(parser: &mut Parser<'_>) -> Parsed<AssignmentKind> {
 fn read_value_assignment(parser: &mut Parser<'_>) -> Parsed<AssignmentKind> {
     let governor = read_type(parser, MAXIMUM_DEPTH)?;
     parser.expect(Symbol::Assignment)?;
-    if is_reference(parser, governor) && see_object(parser) {
+    if may_be_class(parser, governor) && see_object(parser) {
         parser.skip_braces()?;
         return Ok(AssignmentKind::Object(governor));
     }
@@ -89,7 +92,7 @@ fn read_set_assignment(parser: &mut Parser<'_>) -> Parsed<AssignmentKind> {
         _ => return Err(parser.expected(Expected::Symbol(Symbol::Assignment))),
     };
     parser.expect(Symbol::Assignment)?;
-    if is_reference(parser, governor) {
+    if may_be_class(parser, governor) && !see_values(parser) {
         parser.skip_braces()?;
         return Ok(AssignmentKind::ObjectSet(governor));
     }
@@ -99,10 +102,25 @@ fn read_set_assignment(parser: &mut Parser<'_>) -> Parsed<AssignmentKind> {
     Ok(AssignmentKind::ValueSet(governor, values))
 }
 
-/// Whether a type is named, so that it may be a class.
-fn is_reference(parser: &Parser<'_>, place: TypeIndex) -> bool {
+/// Whether a type is a name without small letters and without constraints, so that it may be a class (X.681 7.1).
+fn may_be_class(parser: &Parser<'_>, place: TypeIndex) -> bool {
     match parser.types.get(place) {
-        Some(term) => matches!(&term.kind, TypeKind::Reference(_)),
+        Some(term) => match &term.kind {
+            TypeKind::Reference(reference) if term.constraints.is_empty() => {
+                let name = reference.name.text.as_bytes();
+                !name.iter().any(|letter| letter.is_ascii_lowercase())
+            }
+            _ => false,
+        },
         None => false,
+    }
+}
+
+/// Whether the braces at the next item begin with a value that is no name, and so hold no information objects.
+fn see_values(parser: &Parser<'_>) -> bool {
+    match parser.peek_after(1) {
+        ItemKind::Number(_) | ItemKind::RealNumber | ItemKind::Symbol(Symbol::Minus) => true,
+        ItemKind::CharacterString | ItemKind::BinaryString | ItemKind::HexadecimalString => true,
+        _ => false,
     }
 }

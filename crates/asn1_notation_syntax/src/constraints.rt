@@ -1,9 +1,10 @@
 //! Constraints (X.680 49 and 50).
 ghost use Rattle.std.specs.Prelude.{◌≡◌};
 
-use crate::elements::{read_contained, read_table, read_values, read_words, see_table};
+use crate::elements::{read_table, read_values, read_words, see_table, see_type};
 use crate::inner::read_inner;
-use asn1_notation_parsing::{Parsed, Parser, Refusal, see_value, skip_exception};
+use crate::types::read_type;
+use asn1_notation_parsing::{Parsed, Parser, Refusal, skip_exception};
 use asn1_notation_tokens::{ItemKind, Symbol, Word};
 use asn1_notation_tree::{ConstraintIndex, ConstraintKind};
 
@@ -138,9 +139,13 @@ pub fn read_elements(parser: &mut Parser<'_>, depth: usize) -> Parsed<Constraint
             parser.advance();
             ConstraintKind::Unseen(read_inner(parser, inner)?)
         }
+        ItemKind::Word(Word::Includes) => {
+            parser.advance();
+            ConstraintKind::Contained(read_type(parser, depth)?)
+        }
         ItemKind::Symbol(Symbol::LeftBrace) if see_table(parser) => read_table(parser)?,
+        _ if see_type(parser) => ConstraintKind::Contained(read_type(parser, depth)?),
         ItemKind::Word(word) => read_words(parser, word, inner)?,
-        ItemKind::Reference if !see_value(parser) => read_contained(parser, inner)?,
         _ => read_values(parser, inner)?,
     };
     parser.add_constraint(place, kind)

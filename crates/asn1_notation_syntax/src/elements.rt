@@ -1,13 +1,7 @@
-//! Elements of constraints without constraints in them, unless in actual parameters (X.680 51, X.682 9 to 11).
-use crate::parameters::read_actual_parameters;
-use asn1_notation_parsing::{
-    Parsed, Parser, is_value_word, read_qualifier, read_simple, read_value,
-};
+//! Elements of constraints without types and constraints in them (X.680 51, X.682 9 to 11).
+use asn1_notation_parsing::{Parsed, Parser, is_value_word, read_value, see_selection, see_value};
 use asn1_notation_tokens::{ItemKind, Symbol, Word};
-use asn1_notation_tree::{
-    ConstraintKind, Expected, Limit, RangeEnd, Reference, TypeIndex, TypeKind, TypeTerm,
-    UnseenConstraint,
-};
+use asn1_notation_tree::{ConstraintKind, Expected, Limit, RangeEnd, UnseenConstraint};
 
 /// Whether the braces at the next item hold information objects, which are not named each.
 pub fn see_table(parser: &Parser<'_>) -> bool {
@@ -30,30 +24,27 @@ pub fn read_table(parser: &mut Parser<'_>) -> Parsed<ConstraintKind> {
     Ok(ConstraintKind::Unseen(UnseenConstraint::Table))
 }
 
-/// The values of a type that is named, with its actual parameters (X.680 51.3, X.683 9).
-#[cycle(types)]
-pub fn read_contained(parser: &mut Parser<'_>, depth: usize) -> Parsed<ConstraintKind> {
-    let place = parser.next;
-    let kind = TypeKind::Reference(Reference {
-        module: read_qualifier(parser, ItemKind::Reference)?,
-        name: parser.reference()?,
-        parameters: read_actual_parameters(parser, depth)?,
-    });
-    Ok(ConstraintKind::Contained(add_contained(parser, place, kind)?))
+/// Whether the next item begins a type whose values are the elements, without INCLUDES (X.680 51.3): NULL is a value.
+pub fn see_type(parser: &Parser<'_>) -> bool {
+    match parser.peek() {
+        ItemKind::Reference => !see_value(parser),
+        ItemKind::Symbol(Symbol::LeftBracket) => true,
+        ItemKind::Word(word) => !is_element_word(word),
+        _ => see_selection(parser),
+    }
 }
 
-/// The type of a constraint, without constraints of its own.
-fn add_contained(parser: &mut Parser<'_>, place: usize, kind: TypeKind) -> Parsed<TypeIndex> {
-    let constraints = Vec::new(parser.alloc);
-    parser.add_type(TypeTerm {
-        place,
-        kind,
-        constraints,
-    })
+/// Whether a reserved word begins elements that are no type.
+fn is_element_word(word: Word) -> bool {
+    match word {
+        Word::Pattern | Word::Settings | Word::Containing | Word::Encoded | Word::Constrained =>
+            true,
+        Word::All | Word::Min | Word::Max => true,
+        _ => is_value_word(word),
+    }
 }
 
-/// Elements that begin with a reserved word.
-#[cycle(types)]
+/// Elements that begin with a reserved word, and are no type.
 pub fn read_words(parser: &mut Parser<'_>, word: Word, depth: usize) -> Parsed<ConstraintKind> {
     match word {
         Word::Pattern => {
@@ -76,27 +67,7 @@ pub fn read_words(parser: &mut Parser<'_>, word: Word, depth: usize) -> Parsed<C
             parser.skip_braces()?;
             Ok(ConstraintKind::Unseen(UnseenConstraint::UserDefined))
         }
-        Word::Includes => {
-            parser.advance();
-            read_included(parser, depth)
-        }
-        Word::Min => read_values(parser, depth),
-        _ if is_value_word(word) => read_values(parser, depth),
-        _ => read_included(parser, depth),
-    }
-}
-
-/// The values of a type that is named, or of one without types in it (X.680 51.3).
-#[cycle(types)]
-fn read_included(parser: &mut Parser<'_>, depth: usize) -> Parsed<ConstraintKind> {
-    let place = parser.next;
-    match parser.peek() {
-        ItemKind::Word(Word::All | Word::Max) => Err(parser.expected(Expected::Constraint)),
-        ItemKind::Word(word) => {
-            let kind = read_simple(parser, word)?;
-            Ok(ConstraintKind::Contained(add_contained(parser, place, kind)?))
-        }
-        _ => read_contained(parser, depth),
+        _ => read_values(parser, depth),
     }
 }
 

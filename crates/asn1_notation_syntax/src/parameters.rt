@@ -1,6 +1,6 @@
 //! Actual parameters (X.683 9.5).
 use crate::types::read_type;
-use asn1_notation_parsing::{Parsed, Parser, read_value};
+use asn1_notation_parsing::{Parsed, Parser, read_value, see_selection, see_value};
 use asn1_notation_tokens::{ItemKind, Symbol, Word};
 use asn1_notation_tree::ActualParameter;
 
@@ -24,7 +24,7 @@ pub fn read_actual_parameters(
     Ok(parameters)
 }
 
-/// An actual parameter: a type with a capital letter, what is in braces, or else a value.
+/// An actual parameter: what is in braces, a type, or else a value.
 #[cycle(types)]
 fn read_actual_parameter(parser: &mut Parser<'_>, depth: usize) -> Parsed<ActualParameter> {
     match parser.peek() {
@@ -36,9 +36,13 @@ fn read_actual_parameter(parser: &mut Parser<'_>, depth: usize) -> Parsed<Actual
         ItemKind::Word(Word::True | Word::False) => {
             Ok(ActualParameter::Value(read_value(parser, depth)?))
         }
+        ItemKind::Reference if see_value(parser) => {
+            Ok(ActualParameter::Value(read_value(parser, depth)?))
+        }
         ItemKind::Reference | ItemKind::Word(_) | ItemKind::Symbol(Symbol::LeftBracket) => {
             Ok(ActualParameter::Type(read_type(parser, depth)?))
         }
+        _ if see_selection(parser) => Ok(ActualParameter::Type(read_type(parser, depth)?)),
         _ => Ok(ActualParameter::Value(read_value(parser, depth)?)),
     }
 }

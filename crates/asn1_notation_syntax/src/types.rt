@@ -1,4 +1,5 @@
 //! Types (X.680 17.1).
+use crate::classes::is_identifier_field;
 use crate::collections::read_collection;
 use crate::components::read_components;
 use crate::constraints::read_constraints;
@@ -88,6 +89,9 @@ fn read_named(parser: &mut Parser<'_>, depth: usize) -> Parsed<TypeKind> {
             parameters: Vec::new(parser.alloc),
         };
         let fields = read_fields(parser)?;
+        if is_identifier_field(&class, fields.as_slice()) {
+            return Ok(TypeKind::ObjectIdentifier);
+        }
         return Ok(TypeKind::Unsupported(UnsupportedType::Field(class, fields)));
     }
     let parameters = read_actual_parameters(parser, depth)?;

@@ -123,8 +123,8 @@ pub enum AssignmentKind {
     ObjectClass(Vec<ClassField>),
     /// An information object (X.681 11.1), by what stands in place of its class. Its fields are not kept.
     Object(TypeIndex),
-    /// A set of information objects (X.681 12.1), or of values of a referenced type, by what stands in place of its
-    /// class. Its elements are not kept.
+    /// A set of information objects (X.681 12.1), by what stands in place of its class; or of values of a type whose
+    /// name has no small letter, if it begins with a name. Its elements are not kept.
     ObjectSet(TypeIndex),
 }
 
@@ -232,8 +232,16 @@ pub enum UnsupportedType {
     UtcTime,
     /// GeneralizedTime (X.680 46).
     GeneralizedTime,
-    /// TIME, DATE, TIME-OF-DAY, DATE-TIME or DURATION (X.680 38).
+    /// TIME (X.680 38.1).
     Time,
+    /// DATE (X.680 38.4).
+    Date,
+    /// TIME-OF-DAY (X.680 38.4).
+    TimeOfDay,
+    /// DATE-TIME (X.680 38.4).
+    DateTime,
+    /// DURATION (X.680 38.4).
+    Duration,
     /// ObjectDescriptor (X.680 48).
     ObjectDescriptor,
     /// EXTERNAL (X.680 37).
@@ -244,8 +252,10 @@ pub enum UnsupportedType {
     UnrestrictedCharacterString,
     /// RELATIVE-OID (X.680 33).
     RelativeObjectIdentifier,
-    /// OID-IRI or RELATIVE-OID-IRI (X.680 34 and 35).
+    /// OID-IRI (X.680 34).
     InternationalizedIdentifier,
+    /// RELATIVE-OID-IRI (X.680 35).
+    RelativeInternationalizedIdentifier,
     /// ANY, with or without DEFINED BY, of the notation before 1994.
     Any,
     /// A field of an information object class, such as `CLASS.&Type` (X.681 14): the class and the names of the
@@ -428,7 +438,7 @@ pub enum ConstraintKind {
     Size(ConstraintIndex),
     /// FROM (X.680 51.7).
     From(ConstraintIndex),
-    /// The values of a type, with or without INCLUDES (X.680 51.3): a reference, or a type without types in it.
+    /// The values of a type, with or without INCLUDES (X.680 51.3).
     Contained(TypeIndex),
     /// What is in one of these: UNION or `|` (X.680 50.1).
     Union(Vec<ConstraintIndex>),

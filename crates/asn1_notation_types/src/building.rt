@@ -295,7 +295,7 @@ impl<'a, 'i> Building<'a, 'i> {
         let numbers = numbers_of(self.alloc, &self.files, base.at.scope, items)?;
         let mut table = ItemTable {
             root: Vec::new(self.alloc),
-            is_extensible: items.is_extensible,
+            is_extensible: items.is_extensible || self.files.implies_extension(base.at.scope),
             additions: Vec::new(self.alloc),
         };
         add_items(
