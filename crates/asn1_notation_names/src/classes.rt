@@ -1,12 +1,13 @@
 //! Fields of information object classes (X.681).
 use crate::errors::{NotationError, Problem};
+use crate::instances::{Given, given_for};
 use crate::scopes::{Files, Scope, Symbol, TypeUse};
 use asn1_notation_tree::{AssignmentKind, ClassField, Name, Reference, TypeKind};
 
 /// How many references are followed from the name of a class to its fields.
 const MOST_STEPS: usize = 64;
 
-/// The class that a reference in a module stands for (X.681 9.2), if it stands for one.
+/// The class that a reference in a module stands for (X.681 9.2, X.683 8.4), if it stands for one.
 ///
 /// # Errors
 ///
@@ -21,6 +22,11 @@ pub fn class_named(
     let mut reference = reference;
     for _ in 0..MOST_STEPS {
         let module = reference.module.as_ref();
+        match given_for(files, scope, module, &reference.name) {
+            Some(Given::Class(symbol)) => return Ok(Some(symbol)),
+            Some(_) => return Ok(None),
+            None => {}
+        }
         let symbol = files.find(scope, module, &reference.name, missing)?;
         let Some(assignment) = files.assignment(symbol) else {
             return Ok(None);
@@ -44,8 +50,9 @@ pub fn class_named(
 ///
 /// # Errors
 ///
-/// `UnknownClass` or `UnknownField` at a name that stands for no class, or for no field of it; `UnsupportedType` at the
-/// other fields of TYPE-IDENTIFIER and ABSTRACT-SYNTAX than their open types; those of `Files::find`.
+/// `UnknownClass` or `UnknownField` at a name that stands for no class, or for no field of it; `UnsupportedType` at that
+/// of a set of objects, and at the other fields of TYPE-IDENTIFIER and ABSTRACT-SYNTAX than their open types; those of
+/// `Files::find`.
 pub fn type_of_field(
     files: &Files<'_, '_>,
     scope: Scope,
@@ -66,7 +73,7 @@ pub fn type_of_field(
             class = class_in(files, field).ok_or(scope.error(name.place, Problem::UnknownField))?;
         }
         let Some(symbol) = class_named(files, at, class, Problem::UnknownClass)? else {
-            return Err(at.error(class.name.place, Problem::UnknownClass));
+            return Err(at.error(class.name.place, no_class(files, at, class)));
         };
         let Some(field) = field_of(files, symbol, name) else {
             return Err(scope.error(name.place, Problem::UnknownField));
@@ -78,6 +85,22 @@ pub fn type_of_field(
         fixed = Some(TypeUse { scope: at, index });
     }
     Ok(fixed)
+}
+
+/// What is wrong with a reference that stands for no class: the types of the objects in a set are not supported
+/// (X.681 15).
+fn no_class(files: &Files<'_, '_>, scope: Scope, reference: &Reference) -> Problem {
+    let module = reference.module.as_ref();
+    let found = match files.find(scope, module, &reference.name, Problem::UnknownClass) {
+        Ok(symbol) => files.assignment(symbol),
+        Err(_) => None,
+    };
+    match found {
+        Some(assignment) if matches!(assignment.kind, AssignmentKind::ObjectSet(_)) => {
+            Problem::UnsupportedType
+        }
+        _ => Problem::UnknownClass,
+    }
 }
 
 /// Whether a class is one of those that each module has (X.681 annexes A and B).

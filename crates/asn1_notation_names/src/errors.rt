@@ -38,8 +38,8 @@ pub enum Problem {
     /// Other actual parameters than those of the definition, or none of them (X.683 9.5).
     #[error("the actual parameters are not those of the definition")]
     Parameters,
-    /// A set of values, or a class, as a parameter (X.683 9.5).
-    #[error("a set of values or a class as a parameter is not supported")]
+    /// A set of values, or a value in braces, as a parameter (X.683 9.5).
+    #[error("a set of values or a value in braces as a parameter is not supported")]
     ParameterKind,
     /// No information object class has this name (X.681 9.2).
     #[error("no such information object class")]
@@ -47,6 +47,9 @@ pub enum Problem {
     /// The class has no field of this name (X.681 9.4).
     #[error("the class has no such field")]
     UnknownField,
+    /// A selection type of a type that is no CHOICE, or whose name none of its alternatives has (X.680 30).
+    #[error("the type is no CHOICE with this alternative")]
+    UnknownAlternative,
     /// More parameterised types with their actual parameters than are followed.
     #[error("there are more than 4096 parameterised types with other actual parameters")]
     TooManyInstances,
@@ -71,6 +74,9 @@ pub enum Problem {
     /// A type that contains itself, so that each of its values has no end.
     #[error("the type contains itself in each of its values")]
     Endless,
+    /// The value of a field of an information object (X.681 15).
+    #[error("a value of a field of an object is not supported")]
+    ValueOfObject,
     /// A value of another type.
     #[error("a value of another type")]
     ValueOfOtherType,

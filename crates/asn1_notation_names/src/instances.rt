@@ -17,6 +17,8 @@ pub enum Given {
     Type(TypeUse),
     /// A value.
     Value(ValueUse),
+    /// An information object class, by its assignment.
+    Class(Symbol),
     /// An information object, or a set of them. It is not kept: types do not depend on it.
     Objects,
 }
@@ -24,7 +26,7 @@ pub enum Given {
 /// What an actual parameter is, however it is written; or the parameterised assignment, before them.
 #[derive(Clone, Copy, PartialEq, Eq, PartialOrd, Ord)]
 pub enum Key {
-    /// A parameterised assignment.
+    /// A parameterised assignment, or that of a class.
     Definition(Symbol),
     /// A type, after references without constraints.
     Type(TypeUse),

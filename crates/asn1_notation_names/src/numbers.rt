@@ -60,7 +60,7 @@ pub fn value_named(
 ) -> Result<ValueUse, NotationError> {
     match given_for(files, scope, module, name) {
         Some(Given::Value(at)) => return Ok(at),
-        Some(Given::Type(_) | Given::Objects) => return Err(scope.error(
+        Some(Given::Type(_) | Given::Class(_) | Given::Objects) => return Err(scope.error(
             name.place,
             Problem::UnknownValue,
         )),
@@ -147,7 +147,7 @@ pub fn check_governor(
 /// Whether a value in this notation may be one of a type of a kind (X.680 17.7). A reference may be one of any kind.
 pub fn may_be(kind: &TypeKind, value: &ValueKind) -> bool {
     match kind {
-        _ if matches!(value, ValueKind::Reference(_)) => true,
+        _ if matches!(value, ValueKind::Reference(_) | ValueKind::OfObject) => true,
         TypeKind::Boolean => matches!(value, ValueKind::Boolean(_)),
         TypeKind::Null => matches!(value, ValueKind::Null),
         TypeKind::Integer(_) => matches!(value, ValueKind::Number(_)),
@@ -165,7 +165,8 @@ pub fn may_be(kind: &TypeKind, value: &ValueKind) -> bool {
         }
         TypeKind::SequenceOf(_) | TypeKind::SetOf(_) => matches!(value, ValueKind::List(_)),
         TypeKind::Choice(_) => matches!(value, ValueKind::Choice(..)),
-        TypeKind::Tagged(..) | TypeKind::Reference(_) | TypeKind::Unsupported(_) => true,
+        TypeKind::Tagged(..) | TypeKind::Reference(_) | TypeKind::Selection(..) => true,
+        TypeKind::Unsupported(_) => true,
     }
 }
 
@@ -216,12 +217,13 @@ fn defined_value(files: &Files<'_, '_>, symbol: Symbol) -> Result<(TypeUse, Valu
 ///
 /// `Circular` at the value, if there are more. At the name of one of them, those of `Files::find`, `UnknownValue` where
 /// it is no value's, and `Parameterised` where it has parameters. `ValueOfOtherType` at a value that the type of its
-/// assignment does not have.
+/// assignment does not have, `ValueOfObject` at that of a field of an object.
 pub fn settled(files: &Files<'_, '_>, start: ValueUse) -> Result<ValueUse, NotationError> {
     let mut at = start;
     for _ in 0..MOST_STEPS {
         match &files.value_term(at.scope, at.index)?.kind {
             ValueKind::Reference(reference) => at = next_of(files, at.scope, reference)?,
+            ValueKind::OfObject => return Err(at.error(files, Problem::ValueOfObject)),
             _ => return Ok(at),
         }
     }
@@ -265,7 +267,10 @@ pub fn integer_of(
                 }
                 at = next_of(files, at.scope, reference)?;
             }
-            _ => return Err(value.error(files, Problem::ValueOfOtherType)),
+            _ => {
+                settled(files, at)?;
+                return Err(value.error(files, Problem::ValueOfOtherType));
+            }
         }
     }
     Err(value.error(files, Problem::Circular))
@@ -284,6 +289,7 @@ pub fn item_of(
     let mut at = value;
     for _ in 0..MOST_STEPS {
         let ValueKind::Reference(reference) = &files.value_term(at.scope, at.index)?.kind else {
+            settled(files, at)?;
             return Err(value.error(files, Problem::ValueOfOtherType));
         };
         if let Some(number) = items.find(reference.name.text.as_str()) {

@@ -31,7 +31,8 @@ pub fn referenced(
     let module = reference.module.as_ref();
     match given_for(files, scope, module, &reference.name) {
         Some(Given::Type(at)) if reference.parameters.is_empty() => return Ok((None, at)),
-        Some(_) => return Err(scope.error(place, Problem::Parameters)),
+        Some(Given::Type(_)) => return Err(scope.error(place, Problem::Parameters)),
+        Some(_) => return Err(scope.error(place, Problem::UnknownType)),
         None => {}
     }
     let symbol = files.find(scope, module, &reference.name, Problem::UnknownType)?;
@@ -97,7 +98,8 @@ fn instance_of(
     let mut keys = Vec::new(files.alloc);
     keys.push(Key::Definition(symbol))?;
     for (parameter, actual) in parameters.iter().zip(&reference.parameters) {
-        let one = if has_class(files, symbol.scope, parameters, parameter)? {
+        let given_before = given.as_slice();
+        let one = if has_class(files, symbol.scope, parameters, given_before, parameter)? {
             objects_by(scope, place, parameter, actual)?
         } else {
             given_by(files, scope, place, parameter, actual)?
@@ -134,6 +136,7 @@ fn key_of(files: &mut Files<'_, '_>, given: Given, levels: u32) -> Result<Key, N
         Given::Objects => Ok(Key::Objects),
         Given::Value(value) => Ok(value_key(files, value)),
         Given::Type(at) => Ok(Key::Type(type_key(files, at, levels)?)),
+        Given::Class(symbol) => Ok(Key::Definition(symbol)),
     }
 }
 
@@ -158,12 +161,13 @@ fn type_key(
     Err(start.error(files, Problem::Circular))
 }
 
-/// Whether a class governs a parameter of an assignment in a module (X.683 8.3). A governor that is a parameter of the
-/// assignment itself is a type.
+/// Whether a class governs a parameter of an assignment in a module (X.683 8.3), with what is given for the parameters
+/// before it, of which the governor may be one.
 fn has_class(
     files: &Files<'_, '_>,
     scope: Scope,
     parameters: &[Parameter],
+    given: &[Given],
     parameter: &Parameter,
 ) -> Result<bool, NotationError> {
     let Some(index) = parameter.governor else {
@@ -171,7 +175,10 @@ fn has_class(
     };
     match &files.type_term(TypeUse { scope, index })?.kind {
         TypeKind::Reference(reference) if is_built_in(reference) => Ok(true),
-        TypeKind::Reference(reference) if !is_parameter(parameters, reference) => {
+        TypeKind::Reference(reference) if is_parameter(parameters, reference) => {
+            Ok(is_class_given(parameters, given, reference))
+        }
+        TypeKind::Reference(reference) => {
             let class = class_named(files, scope, reference, Problem::UnknownType)?;
             Ok(class.is_some())
         }
@@ -186,6 +193,17 @@ fn is_parameter(parameters: &[Parameter], reference: &Reference) -> bool {
         && parameters
             .iter()
             .any(|parameter| parameter.name.text.as_str() == name)
+}
+
+/// Whether a class is given for the parameter with the name of a reference.
+fn is_class_given(parameters: &[Parameter], given: &[Given], reference: &Reference) -> bool {
+    let name = reference.name.text.as_str();
+    for (parameter, given) in parameters.iter().zip(given) {
+        if parameter.name.text.as_str() == name {
+            return matches!(given, Given::Class(_));
+        }
+    }
+    false
 }
 
 /// What is given for a parameter that a class governs: objects in braces, or the name of an object if the parameter has
@@ -236,7 +254,7 @@ fn given_by(
     }
 }
 
-/// A type that is given for a parameter. It may not be a class.
+/// A type or a class that is given for a parameter.
 fn given_type(files: &Files<'_, '_>, at: TypeUse) -> Result<Given, NotationError> {
     let term = files.type_term(at)?;
     let TypeKind::Reference(reference) = &term.kind else {
@@ -247,6 +265,9 @@ fn given_type(files: &Files<'_, '_>, at: TypeUse) -> Result<Given, NotationError
         Some(given) if term.constraints.is_empty() => return Ok(given),
         Some(_) => return Ok(Given::Type(at)),
         None => {}
+    }
+    if let Some(class) = class_named(files, at.scope, reference, Problem::UnknownType)? {
+        return Ok(Given::Class(class));
     }
     let symbol = files.find(at.scope, module, &reference.name, Problem::UnknownType)?;
     match defined_type(files, symbol) {

@@ -438,7 +438,7 @@ impl<'a, 'i> Files<'a, 'i> {
         self.follow(scope, name, 0).ok()
     }
 
-    /// What a name in a module stands for, after the name of a module if that is given.
+    /// What a name in a module stands for, after the name of a module if that is given, which may import it.
     ///
     /// # Errors
     ///
@@ -459,9 +459,9 @@ impl<'a, 'i> Files<'a, 'i> {
             if searched != scope.outside() && self.keeps(searched, text) {
                 return Err(scope.error(name.place, Problem::NotExported));
             }
-            return match self.find_in(searched, text) {
-                Some(found) => Ok(found),
-                None => Err(unknown_symbol(self, scope, searched, text, name.place, missing)),
+            return match self.follow(searched, text, name.place) {
+                Ok(found) => Ok(found),
+                Err(_) => Err(unknown_symbol(self, scope, searched, text, name.place, missing)),
             };
         }
         match self.follow(scope, text, name.place) {

@@ -13,7 +13,8 @@ mod values;
 pub use braces::read_module_identifier;
 pub use parser::{MAXIMUM_DEPTH, Parser};
 pub use references::{
-    read_qualifier, read_value_reference, see_selection, see_value, skip_parameters,
+    read_fields, read_qualifier, read_value_reference, see_field, see_selection, see_value,
+    skip_parameters,
 };
 pub use refusals::{Parsed, Refusal};
 pub use simple::read_simple;

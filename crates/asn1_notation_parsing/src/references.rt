@@ -56,6 +56,26 @@ pub fn read_value_reference(parser: &mut Parser<'_>) -> Parsed<Reference> {
     })
 }
 
+/// Whether the next items are a dot and the name of a field.
+pub fn see_field(parser: &Parser<'_>) -> bool {
+    parser.sees(Symbol::Dot) && parser.peek_after(1) == ItemKind::Field
+}
+
+/// The names of fields at the next item, each after a dot (X.681 14.1).
+pub fn read_fields(parser: &mut Parser<'_>) -> Parsed<Vec<Name>> {
+    let mut fields = Vec::new(parser.alloc);
+    for _ in 0..parser.left() {
+        if !parser.eat(Symbol::Dot) {
+            break;
+        }
+        if parser.peek() != ItemKind::Field {
+            return Err(parser.expected(Expected::Field));
+        }
+        fields.push(parser.take_name()?)?;
+    }
+    Ok(fields)
+}
+
 /// The name of an information object class, after its module if that is given (X.681 9).
 pub fn read_class(parser: &mut Parser<'_>) -> Parsed<Reference> {
     let module = read_qualifier(parser, ItemKind::Reference)?;

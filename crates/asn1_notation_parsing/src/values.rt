@@ -3,7 +3,7 @@ ghost use Rattle.std.specs.Prelude.{◌≡◌};
 
 use crate::braces::{read_arcs, see_arcs};
 use crate::parser::Parser;
-use crate::references::{read_value_reference, see_value, skip_type};
+use crate::references::{read_fields, read_value_reference, see_field, see_value, skip_type};
 use crate::refusals::{Parsed, Refusal};
 use crate::strings::{characters_of, digits_of};
 use asn1_notation_tokens::{ItemKind, Symbol, Word};
@@ -115,7 +115,12 @@ fn read_plain(parser: &mut Parser<'_>) -> Parsed<ValueKind> {
         ItemKind::Word(word) => read_word(parser, word),
         ItemKind::Symbol(Symbol::Minus) => read_negative(parser),
         ItemKind::Identifier | ItemKind::Reference => {
-            Ok(ValueKind::Reference(read_value_reference(parser)?))
+            let reference = read_value_reference(parser)?;
+            if see_field(parser) {
+                read_fields(parser)?;
+                return Ok(ValueKind::OfObject);
+            }
+            Ok(ValueKind::Reference(reference))
         }
         kind => {
             let value = match kind {

@@ -5,9 +5,11 @@ use asn1_notation_names::{
     Files, NotationError, Problem, Scope, Symbol, TypeUse, referenced, type_of_field,
 };
 use asn1_notation_tree::{
-    AssignmentKind, ConstraintIndex, Tagging, TaggingMode, TypeKind, TypeTerm, UnsupportedType,
+    Addition, AssignmentKind, Component, Components, ConstraintIndex, Name, Tagging, TaggingMode,
+    TypeIndex, TypeKind, TypeTerm, UnsupportedType,
 };
 use std::alloc::Global;
+use std::slice;
 
 /// How many references and tags are followed from a type to its kind.
 const MOST_STEPS: usize = 64;
@@ -24,7 +26,7 @@ pub struct ConstraintUse {
     pub index: ConstraintIndex,
 }
 
-/// A type without its references and tags.
+/// A type without its references, selections and tags.
 #[derive(Drop)]
 pub struct Base<'a> {
     /// Where its kind is written.
@@ -105,13 +107,18 @@ fn check_implicit(kind: &TypeKind, error: Option<NotationError>) -> Result<(), N
     }
 }
 
-/// The type of the values of a field of a class (X.681 14), if the kind is one and it is no open type.
-fn field_type(
-    files: &Files<'_, '_>,
+/// The type for which a kind stands: that of an alternative (X.680 30), or of the values of a field of a class
+/// (X.681 14) unless it is an open type.
+fn type_for(
+    files: &mut Files<'_, '_>,
     scope: Scope,
     kind: &TypeKind,
 ) -> Result<Option<TypeUse>, NotationError> {
     match kind {
+        TypeKind::Selection(name, index) => {
+            let index = *index;
+            Ok(Some(selected(files, TypeUse { scope, index }, name)?))
+        }
         TypeKind::Unsupported(UnsupportedType::Field(class, names)) => {
             type_of_field(files, scope, class, names.as_slice())
         }
@@ -119,13 +126,70 @@ fn field_type(
     }
 }
 
-/// A type without its references and tags (X.680 14.1 and 31, X.681 14). The last tag may not be IMPLICIT before a
-/// CHOICE (X.680 31.2.9).
+/// The type of the alternative with a name of a CHOICE (X.680 30).
+fn selected(
+    files: &mut Files<'_, '_>,
+    start: TypeUse,
+    name: &Name,
+) -> Result<TypeUse, NotationError> {
+    let mut at = start;
+    for _ in 0..MOST_STEPS {
+        match &files.type_term(at)?.kind {
+            TypeKind::Tagged(_, inner) => at.index = *inner,
+            TypeKind::Reference(reference) => {
+                let (_, next) = referenced(files, at.scope, reference, MOST_LEVELS)?;
+                at = next;
+            }
+            TypeKind::Choice(components) => match alternative(components, name.text.as_str()) {
+                Some(index) => {
+                    at.index = index;
+                    return Ok(at);
+                }
+                None => break,
+            },
+            _ => break,
+        }
+    }
+    Err(start.scope.error(name.place, Problem::UnknownAlternative))
+}
+
+/// The type of the alternative with a name, if there is one.
+fn alternative(components: &Components, name: &str) -> Option<TypeIndex> {
+    let root = named_type(components.root.as_slice(), name);
+    if root.is_some() {
+        return root;
+    }
+    for addition in &components.additions {
+        let added = match addition {
+            Addition::Single(component) => slice::from_ref(component),
+            Addition::Group(group) => group.components.as_slice(),
+        };
+        let found = named_type(added, name);
+        if found.is_some() {
+            return found;
+        }
+    }
+    None
+}
+
+/// The type of the component with a name, if there is one.
+fn named_type(components: &[Component], name: &str) -> Option<TypeIndex> {
+    for component in components {
+        match component {
+            Component::Named(known, index, _) if known.text.as_str() == name => return Some(*index),
+            _ => {}
+        }
+    }
+    None
+}
+
+/// A type without its references, selections and tags (X.680 14.1, 30 and 31, X.681 14). The last tag may not be
+/// IMPLICIT before a CHOICE (X.680 31.2.9).
 ///
 /// # Errors
 ///
-/// Those of a reference to a type (`referenced`) and of a field of a class (`type_of_field`). `ImplicitChoice` at such
-/// a tag, and `Circular` at the type after 64 references and tags.
+/// Those of a reference to a type (`referenced`) and of a field of a class (`type_of_field`); `UnknownAlternative` at
+/// the name in a selection. `ImplicitChoice` at such a tag, and `Circular` at the type after 64 references and tags.
 pub fn base_of<'a>(
     alloc: Global,
     files: &mut Files<'a, '_>,
@@ -158,7 +222,7 @@ pub fn base_of<'a>(
                 add_value_set(&mut base.constraints, files, symbol, next.scope)?;
                 (base.symbol, base.at) = (symbol, next);
             }
-            kind => match field_type(files, at.scope, kind)? {
+            kind => match type_for(files, at.scope, kind)? {
                 Some(next) => (base.symbol, base.at) = (None, next),
                 None => {
                     check_implicit(kind, implicit)?;

@@ -48,7 +48,8 @@ pub fn universal_number(kind: &TypeKind) -> Option<u32> {
         TypeKind::Set(_) | TypeKind::SetOf(_) => Some(17),
         TypeKind::CharacterString(name) => Some(string_number(*name)),
         TypeKind::Unsupported(unsupported) => unsupported_number(unsupported),
-        TypeKind::Choice(_) | TypeKind::Tagged(..) | TypeKind::Reference(_) => None,
+        TypeKind::Choice(_) | TypeKind::Tagged(..) => None,
+        TypeKind::Reference(_) | TypeKind::Selection(..) => None,
     }
 }
 
@@ -87,7 +88,7 @@ fn unsupported_number(unsupported: &UnsupportedType) -> Option<u32> {
         UnsupportedType::Duration => Some(34),
         UnsupportedType::InternationalizedIdentifier => Some(35),
         UnsupportedType::RelativeInternationalizedIdentifier => Some(36),
-        UnsupportedType::Any | UnsupportedType::Field(..) | UnsupportedType::Selection(..) => None,
+        UnsupportedType::Any | UnsupportedType::Field(..) | UnsupportedType::OfObject => None,
     }
 }
 

@@ -106,17 +106,31 @@ fn skip_field(parser: &mut Parser<'_>) {
     }
 }
 
-/// Whether the braces at the next item hold an information object: they begin with a field, or with a capital letter
-/// and no value.
+/// Whether the braces at the next item hold an information object: they begin with a field, with a capital letter and
+/// no value, or with a number or a name before a word of its class (X.681 10.6).
 pub fn see_object(parser: &Parser<'_>) -> bool {
-    if !parser.sees(Symbol::LeftBrace) {
+    see_object_after(parser, 0)
+}
+
+/// The same of the braces that come this many items after the next one.
+pub fn see_object_after(parser: &Parser<'_>, count: usize) -> bool {
+    let first = count.saturating_add(1);
+    let second = count.saturating_add(2);
+    if parser.peek_after(count) != ItemKind::Symbol(Symbol::LeftBrace) {
         return false;
     }
-    match parser.peek_after(1) {
+    match parser.peek_after(first) {
         ItemKind::Field => true,
         ItemKind::Reference | ItemKind::Word(_) => !matches!(
-            parser.peek_after(2),
+            parser.peek_after(second),
             ItemKind::Symbol(Symbol::Comma | Symbol::Dot | Symbol::Colon | Symbol::RightBrace)
+        ),
+        ItemKind::Number(_) => parser.peek_after(second) == ItemKind::Reference,
+        ItemKind::Identifier if parser.peek_after(second) == ItemKind::Reference => !matches!(
+            parser.peek_after(count.saturating_add(3)),
+            ItemKind::Symbol(
+                Symbol::Dot | Symbol::Colon | Symbol::LeftBrace | Symbol::LeftParenthesis,
+            )
         ),
         _ => false,
     }

@@ -45,7 +45,11 @@ pub fn read_collection(
     })
 }
 
-/// Whether the next item is the name of an element, and no selection type.
+/// Whether the next item is the name of an element, and begins no selection type and no type of an object.
 fn is_named(parser: &Parser<'_>) -> bool {
-    parser.peek() == ItemKind::Identifier && parser.peek_after(1) != ItemKind::Symbol(Symbol::Less)
+    parser.peek() == ItemKind::Identifier
+        && !matches!(
+            parser.peek_after(1),
+            ItemKind::Symbol(Symbol::Less | Symbol::Dot)
+        )
 }

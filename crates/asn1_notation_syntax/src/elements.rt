@@ -1,18 +1,43 @@
 //! Elements of constraints without types and constraints in them (X.680 51, X.682 9 to 11).
+use crate::classes::see_object_after;
 use asn1_notation_parsing::{Parsed, Parser, is_value_word, read_value, see_selection, see_value};
 use asn1_notation_tokens::{ItemKind, Symbol, Word};
 use asn1_notation_tree::{ConstraintKind, Expected, Limit, RangeEnd, UnseenConstraint};
 
-/// Whether the braces at the next item hold information objects, which are not named each.
+/// Whether the braces at the next item hold a set of information objects (X.681 12.1). One object that is named there
+/// has the form of a value, unless braces follow.
 pub fn see_table(parser: &Parser<'_>) -> bool {
     match parser.peek_after(1) {
-        ItemKind::Reference => {
-            parser.peek_after(2) != ItemKind::Symbol(Symbol::Dot)
-                || parser.peek_after(3) != ItemKind::Identifier
-        }
-        ItemKind::Symbol(Symbol::Ellipsis) => true,
-        _ => false,
+        ItemKind::Reference
+            if parser.peek_after(2) != ItemKind::Symbol(Symbol::Dot)
+                || parser.peek_after(3) != ItemKind::Identifier => true,
+        ItemKind::Symbol(Symbol::LeftBrace) if see_object_after(parser, 1) => true,
+        _ => see_set(parser),
     }
+}
+
+/// Whether the braces at the next item have a part of a set in them, or braces after them.
+fn see_set(parser: &Parser<'_>) -> bool {
+    let mut open: usize = 0;
+    for ahead in 0..parser.left() {
+        match parser.peek_after(ahead) {
+            ItemKind::Symbol(Symbol::LeftBrace) => open = open.saturating_add(1),
+            ItemKind::Symbol(Symbol::RightBrace) if open <= 1 => {
+                let after = parser.peek_after(ahead.saturating_add(1));
+                return after == ItemKind::Symbol(Symbol::LeftBrace);
+            }
+            ItemKind::Symbol(Symbol::RightBrace) => open = open.saturating_sub(1),
+            ItemKind::Symbol(Symbol::Bar | Symbol::Caret | Symbol::Ellipsis) if open == 1 => {
+                return true;
+            }
+            ItemKind::Word(Word::Union | Word::Intersection | Word::Except) if open == 1 => {
+                return true;
+            }
+            ItemKind::End => return false,
+            _ => {}
+        }
+    }
+    false
 }
 
 /// Information objects in braces, and the components at which they look, in braces too (X.682 10.3).

@@ -4,7 +4,10 @@ use crate::collections::read_collection;
 use crate::components::read_components;
 use crate::constraints::read_constraints;
 use crate::parameters::read_actual_parameters;
-use asn1_notation_parsing::{Parsed, Parser, Refusal, read_number, read_qualifier, read_simple};
+use asn1_notation_parsing::{
+    Parsed, Parser, Refusal, read_fields, read_number, read_qualifier, read_simple,
+    read_value_reference, see_field, see_value,
+};
 use asn1_notation_tokens::{ItemKind, Symbol, Word};
 use asn1_notation_tree::{
     Expected, Name, Reference, TagClass, Tagging, TaggingMode, TypeIndex, TypeKind, TypeTerm,
@@ -33,13 +36,13 @@ pub fn read_type(parser: &mut Parser<'_>, depth: usize) -> Parsed<TypeIndex> {
             TypeKind::Choice(read_components(parser, inner, true)?)
         }
         ItemKind::Word(word) => read_simple(parser, word)?,
-        ItemKind::Reference => read_named(parser, inner)?,
+        ItemKind::Reference if !see_value(parser) => read_named(parser, inner)?,
         ItemKind::Identifier if parser.peek_after(1) == ItemKind::Symbol(Symbol::Less) => {
             let name = parser.identifier()?;
             parser.advance();
-            TypeKind::Unsupported(UnsupportedType::Selection(name, read_type(parser, inner)?))
+            TypeKind::Selection(name, read_type(parser, inner)?)
         }
-        _ => return Err(parser.expected(Expected::Type)),
+        _ => read_type_of_object(parser)?,
     };
     read_constraints(parser, inner, &mut constraints)?;
     parser.add_type(TypeTerm {
@@ -102,17 +105,18 @@ fn read_named(parser: &mut Parser<'_>, depth: usize) -> Parsed<TypeKind> {
     }))
 }
 
-/// The names of fields, each after a dot (X.681 14.1).
-fn read_fields(parser: &mut Parser<'_>) -> Parsed<Vec<Name>> {
-    let mut fields = Vec::new(parser.alloc);
-    for _ in 0..parser.left() {
-        if !parser.eat(Symbol::Dot) {
-            break;
+/// The type of a field of an information object (X.681 15).
+fn read_type_of_object(parser: &mut Parser<'_>) -> Parsed<TypeKind> {
+    let missing = parser.expected(Expected::Type);
+    match parser.peek() {
+        ItemKind::Identifier | ItemKind::Reference => {
+            read_value_reference(parser)?;
         }
-        if parser.peek() != ItemKind::Field {
-            return Err(parser.expected(Expected::Field));
-        }
-        fields.push(parser.take_name()?)?;
+        _ => return Err(missing),
     }
-    Ok(fields)
+    if !see_field(parser) {
+        return Err(missing);
+    }
+    read_fields(parser)?;
+    Ok(TypeKind::Unsupported(UnsupportedType::OfObject))
 }

@@ -192,6 +192,8 @@ pub enum TypeKind {
     Tagged(Tagging, TypeIndex),
     /// A type by its name (X.680 14.1, X.683 9).
     Reference(Reference),
+    /// The type of an alternative of a CHOICE, such as `name < Choice` (X.680 30).
+    Selection(Name, TypeIndex),
     /// A type that tables do not hold.
     Unsupported(UnsupportedType),
 }
@@ -261,10 +263,10 @@ pub enum UnsupportedType {
     /// A field of an information object class, such as `CLASS.&Type` (X.681 14): the class and the names of the
     /// fields, each with `&`.
     Field(Reference, Vec<Name>),
+    /// The type of a field of an information object, such as `object.&Type` (X.681 15). It is not kept.
+    OfObject,
     /// INSTANCE OF a class (X.681 annex C).
     InstanceOf(Reference),
-    /// An alternative of a CHOICE, such as `name < Choice` (X.680 30).
-    Selection(Name, TypeIndex),
 }
 
 /// A name, and a number or a reference to one: a named number (X.680 19.1), a named bit (X.680 22.1).
@@ -550,6 +552,8 @@ pub enum ValueKind {
     /// A value of a REAL: a number with a decimal point or an exponent, PLUS-INFINITY, MINUS-INFINITY or NOT-A-NUMBER
     /// (X.680 21.6). It is not kept.
     Real,
+    /// The value of a field of an information object, such as `object.&value` (X.681 15). It is not kept.
+    OfObject,
     /// A value after its type and a colon, in place of an open type (X.681 14.6). The type is not kept.
     Typed(ValueIndex),
     /// A value after CONTAINING (X.680 22.9, 23.3).

@@ -222,9 +222,10 @@ impl<'a, 'i> Building<'a, 'i> {
             TypeKind::Unsupported(UnsupportedType::Field(..)) => {
                 Ok(TypeNode::OctetString(ANY_SIZE))
             }
-            TypeKind::Tagged(..) | TypeKind::Reference(_) | TypeKind::Unsupported(_) => {
+            TypeKind::Tagged(..) | TypeKind::Reference(_) | TypeKind::Selection(..) => {
                 Err(base.error(Problem::UnsupportedType))
             }
+            TypeKind::Unsupported(_) => Err(base.error(Problem::UnsupportedType)),
         }
     }
 
