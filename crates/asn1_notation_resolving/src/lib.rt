@@ -2,6 +2,7 @@
 #![tactic(auto, using(std::proofs::lemmas::Grind::common_steps))]
 
 mod bases;
+mod characters;
 mod identifiers;
 mod kinds;
 mod limits;
@@ -13,6 +14,7 @@ pub use asn1_notation_names::{
     Symbol, TypeUse, ValueUse, integer_of, item_of, number_of, numbers_of, settled, type_of_symbol,
 };
 pub use bases::{Base, ConstraintUse, base_of};
+pub use characters::characters_of;
 pub use identifiers::arcs_of;
 pub use kinds::check_kinds;
 pub use limits::{alphabet, number_limits, permits, sizes};

@@ -3,16 +3,14 @@
 ghost use Rattle.std.specs.Prelude.{◌≡◌};
 
 use crate::bases::{Base, ConstraintUse, base_of};
+use crate::characters::characters_of;
 use asn1_notation_constraints::{ConstraintTerm, Visible, effective};
 use asn1_notation_intervals::{Interval, NumberSet};
-use asn1_notation_names::{
-    Files, NotationError, Problem, Scope, TypeUse, ValueUse, integer_of, settled,
-};
+use asn1_notation_names::{Files, NotationError, Problem, Scope, TypeUse, ValueUse, integer_of};
 use asn1_notation_tree::{
-    ConstraintIndex, ConstraintKind, Limit, NamedNumber, RangeEnd, TypeKind, ValueIndex, ValueKind,
+    ConstraintIndex, ConstraintKind, Limit, NamedNumber, RangeEnd, TypeKind, ValueIndex,
 };
 use std::alloc::Global;
-use std::str;
 
 /// How many levels of constraints are followed.
 const MOST_LEVELS: u32 = 64;
@@ -410,7 +408,7 @@ impl<'a> Terms<'a> {
         };
         let value = ValueUse { scope, index };
         let number = match aspect {
-            Aspect::Characters => character_of(files, value)?,
+            Aspect::Characters => character_of(self.alloc, files, value)?,
             _ => self.number(files, value)?,
         };
         if !end.is_open {
@@ -435,8 +433,8 @@ impl<'a> Terms<'a> {
         value: ValueUse,
     ) -> Result<usize, NotationError> {
         let mut all = Vec::new(self.alloc);
-        for character in text_of(files, value)?.chars() {
-            let number = i128::from(u32::from(character));
+        for character in characters_of(self.alloc, files, value)? {
+            let number = i128::from(character);
             self.written.push(Written { number, value })?;
             all.push(self.add_interval(Some(number), Some(number))?)?;
         }
@@ -445,22 +443,13 @@ impl<'a> Terms<'a> {
 }
 
 /// The single character of a string at an end of a range.
-fn character_of(files: &Files<'_, '_>, value: ValueUse) -> Result<i128, NotationError> {
-    let mut characters = text_of(files, value)?.chars();
-    let (Some(character), None) = (characters.next(), characters.next()) else {
-        return Err(value.error(files, Problem::ValueOfOtherType));
-    };
-    Ok(i128::from(u32::from(character)))
-}
-
-/// The characters of a string.
-fn text_of<'a>(files: &Files<'a, '_>, value: ValueUse) -> Result<&'a str, NotationError> {
-    let at = settled(files, value)?;
-    let ValueKind::Text(octets) = &files.value_term(at.scope, at.index)?.kind else {
-        return Err(value.error(files, Problem::ValueOfOtherType));
-    };
-    match str::from_utf8(octets.as_slice()) {
-        Ok(text) => Ok(text),
-        Err(_) => Err(value.error(files, Problem::ValueOfOtherType)),
+fn character_of(
+    alloc: Global,
+    files: &Files<'_, '_>,
+    value: ValueUse,
+) -> Result<i128, NotationError> {
+    match characters_of(alloc, files, value)?.as_slice() {
+        [character] => Ok(i128::from(*character)),
+        _ => Err(value.error(files, Problem::ValueOfOtherType)),
     }
 }

@@ -4,8 +4,8 @@ ghost use Rattle.asn1_schema_constraints.specs.declared.bounds.Bounded.TheVarian
 
 use crate::building::{has_known_multiplier, string_kind};
 use asn1_notation_resolving::{
-    Base, Files, NotationError, Problem, ValueUse, arcs_of, integer_of, item_of, number_limits,
-    numbers_of, permits, settled, sizes,
+    Base, Files, NotationError, Problem, ValueUse, arcs_of, characters_of, integer_of, item_of,
+    number_limits, numbers_of, permits, settled, sizes,
 };
 use asn1_notation_tree::{Enumeration, ListElement, NamedNumber, StringName, TypeKind, ValueKind};
 use asn1_schema_constraints::{Bounded, Sizes};
@@ -15,7 +15,6 @@ use asn1_values_identifiers::ObjectIdentifier;
 use asn1_values_integers::Integer;
 use std::alloc::Global;
 use std::borrow::CowSlice;
-use std::str;
 
 /// How many bits a default with named bits has at most.
 const MOST_BITS: usize = 65_536;
@@ -264,24 +263,17 @@ impl Valued<'_, '_, '_> {
 
     /// A value of a character string (X.680 41.8): its characters by their numbers, or its octets in UTF-8.
     fn text(self, name: StringName) -> Result<Event, NotationError> {
-        let at = settled(self.files, self.value)?;
-        let ValueKind::Text(text) = &self.files.value_term(at.scope, at.index)?.kind else {
-            return Err(self.error(Problem::ValueOfOtherType));
-        };
+        let mut text = String::new(self.alloc);
         let mut characters = Vec::new(self.alloc);
-        if matches!(name, StringName::Utf8) {
-            characters.extend_from_slice(text.as_slice())?;
-            return Ok(Event::Text(characters));
-        }
-        let Ok(text) = str::from_utf8(text.as_slice()) else {
-            return Err(self.error(Problem::ValueOfOtherType));
-        };
-        for character in text.chars() {
-            match u8::try_from(u32::from(character)) {
-                Ok(number) => characters.push(number)?,
-                Err(_) => return Err(self.error(Problem::UnsupportedDefault)),
+        for character in characters_of(self.alloc, self.files, self.value)? {
+            let is_utf8 = matches!(name, StringName::Utf8);
+            match (char::from_u32(character), u8::try_from(character)) {
+                (Some(character), _) if is_utf8 => text.push(character)?,
+                (_, Ok(number)) if !is_utf8 => characters.push(number)?,
+                _ => return Err(self.error(Problem::UnsupportedDefault)),
             }
         }
+        characters.extend_from_slice(text.as_bytes())?;
         Ok(Event::Text(characters))
     }
 
