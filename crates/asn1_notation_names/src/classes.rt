@@ -50,9 +50,9 @@ pub fn class_named(
 ///
 /// # Errors
 ///
-/// `UnknownClass` or `UnknownField` at a name that stands for no class, or for no field of it; `UnsupportedType` at that
-/// of a set of objects, and at the other fields of TYPE-IDENTIFIER and ABSTRACT-SYNTAX than their open types; those of
-/// `Files::find`.
+/// `UnknownClass` or `UnknownField` at a name that stands for no class, or for no field of it; `UnsupportedType` at the
+/// name of a set of objects, and at the other fields of TYPE-IDENTIFIER and ABSTRACT-SYNTAX than their open types;
+/// those of `Files::find`.
 pub fn type_of_field(
     files: &Files<'_, '_>,
     scope: Scope,

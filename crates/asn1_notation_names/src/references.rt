@@ -104,7 +104,7 @@ fn instance_of(
         } else {
             given_by(files, scope, place, parameter, actual)?
         };
-        let one = by_governor(files, symbol.scope, parameter, one)?;
+        let one = by_governor(files, symbol.scope, parameters, parameter, one)?;
         keys.push(key_of(files, one, levels - 1)?)?;
         given.push(one)?;
     }
@@ -112,20 +112,22 @@ fn instance_of(
 }
 
 /// What is given for a parameter of an assignment in a module, by the governor of the parameter if it is a value
-/// (X.683 9.6).
+/// (X.683 9.6) and the governor is not another parameter.
 fn by_governor(
     files: &Files<'_, '_>,
     scope: Scope,
+    parameters: &[Parameter],
     parameter: &Parameter,
     given: Given,
 ) -> Result<Given, NotationError> {
-    match (given, parameter.governor) {
-        (Given::Value(value), Some(index)) => {
-            let governor = TypeUse { scope, index };
-            check_governor(files, governor, value)?;
-            Ok(Given::Value(governed(files, governor, value)?))
-        }
-        _ => Ok(given),
+    let (Given::Value(value), Some(index)) = (given, parameter.governor) else {
+        return Ok(given);
+    };
+    let governor = TypeUse { scope, index };
+    check_governor(files, governor, value)?;
+    match &files.type_term(governor)?.kind {
+        TypeKind::Reference(reference) if is_parameter(parameters, reference) => Ok(given),
+        _ => Ok(Given::Value(governed(files, governor, value)?)),
     }
 }
 
