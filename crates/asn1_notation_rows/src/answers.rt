@@ -1,7 +1,9 @@
 //! What becomes of modules, as text.
 use asn1_notation_printing::{list_types, print_type};
 use asn1_notation_syntax::{Syntax, line_and_column, read_syntax};
-use asn1_notation_types::{Additions, NamedBits, OpenTypes, Table, TableOptions, table_of};
+use asn1_notation_types::{
+    Additions, NamedBits, OpenTypes, Table, TableOptions, Times, table_of,
+};
 use asn1_table_extending::{ExtendingError, check_extends};
 use asn1_table_names::Names;
 use std::alloc::{AllocError, Global};
@@ -65,12 +67,13 @@ pub fn normal_form(alloc: Global, text: &str, name: &str) -> Result<String, Stop
     form_of(alloc, text, name, Additions::MayBeAbsent.into())
 }
 
-/// The same, where zeros at the end of named bits without a fixed size are kept.
+/// The same, where times and zeros at the end of named bits without a fixed size are kept as they are sent.
 pub fn as_sent_form(alloc: Global, text: &str, name: &str) -> Result<String, Stop> {
     let options = TableOptions {
         additions: Additions::MayBeAbsent,
         open_types: OpenTypes::AreRefused,
         named_bits: NamedBits::AreAsSent,
+        times: Times::AreAsSent,
     };
     form_of(alloc, text, name, options)
 }

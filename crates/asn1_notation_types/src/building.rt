@@ -2,7 +2,7 @@
 use crate::defaults::Defaults;
 use crate::events::fixed_size;
 use crate::parts::{is_last_of_group, is_required, root_order};
-use crate::tables::{NamedBits, OpenTypes, TableOptions};
+use crate::tables::{NamedBits, OpenTypes, TableOptions, Times};
 use asn1_notation_components::{
     Part, Parts, TaggedPart, alternatives_of, check_sequence, check_set, parts_of, tags_of_part,
 };
@@ -117,6 +117,10 @@ impl<'a, 'i> Building<'a, 'i> {
             TypeKind::Unsupported(UnsupportedType::Field(..)) => {
                 self.options.open_types == OpenTypes::AreOctets
             }
+            TypeKind::Unsupported(UnsupportedType::UtcTime | UnsupportedType::GeneralizedTime) => {
+                self.options.times == Times::AreAsSent
+            }
+            TypeKind::Unsupported(UnsupportedType::ObjectDescriptor) => true,
             TypeKind::Unsupported(_) => false,
             _ => true,
         }
@@ -221,6 +225,12 @@ impl<'a, 'i> Building<'a, 'i> {
             // An open type, whose constraints say nothing of its octets.
             TypeKind::Unsupported(UnsupportedType::Field(..)) => {
                 Ok(TypeNode::OctetString(ANY_SIZE))
+            }
+            TypeKind::Unsupported(UnsupportedType::UtcTime | UnsupportedType::GeneralizedTime) => {
+                Ok(any_string(StringKind::Visible))
+            }
+            TypeKind::Unsupported(UnsupportedType::ObjectDescriptor) => {
+                Ok(any_string(StringKind::Graphic))
             }
             TypeKind::Tagged(..) | TypeKind::Reference(_) | TypeKind::Selection(..) => {
                 Err(base.error(Problem::UnsupportedType))
@@ -545,6 +555,15 @@ impl Grouped {
             components: Vec::new(alloc),
         }
     }
+}
+
+/// A character string of any size.
+fn any_string(kind: StringKind) -> TypeNode {
+    TypeNode::CharacterString(StringTable {
+        kind,
+        sizes: ANY_SIZE,
+        alphabet: None,
+    })
 }
 
 /// The kind of a character string (X.680 41), if tables hold it.

@@ -40,6 +40,15 @@ pub enum NamedBits {
     AreAsSent,
 }
 
+/// What becomes of UTCTime and GeneralizedTime (X.680 46 and 47).
+#[derive(Clone, Copy, Debug, PartialEq, Eq)]
+pub enum Times {
+    /// They have no values: only messages in which they are absent are translated.
+    AreRefused,
+    /// A time is kept as it is sent: a VisibleString, under the tag of its type.
+    AreAsSent,
+}
+
 /// How modules are understood.
 #[derive(Clone, Copy, Debug, PartialEq, Eq)]
 pub struct TableOptions {
@@ -49,15 +58,18 @@ pub struct TableOptions {
     pub open_types: OpenTypes,
     /// What becomes of named bits without a fixed size.
     pub named_bits: NamedBits,
+    /// What becomes of times.
+    pub times: Times,
 }
 
 impl From<Additions> for TableOptions {
-    /// Open types, and named bits without a fixed size, are refused.
+    /// Open types, named bits without a fixed size, and times are refused.
     fn from(additions: Additions) -> Self {
         TableOptions {
             additions,
             open_types: OpenTypes::AreRefused,
             named_bits: NamedBits::AreRefused,
+            times: Times::AreRefused,
         }
     }
 }
