@@ -1,9 +1,7 @@
 //! What becomes of modules, as text.
 use asn1_notation_printing::{list_types, print_type};
 use asn1_notation_syntax::{Syntax, line_and_column, read_syntax};
-use asn1_notation_types::{
-    Additions, NamedBits, OpenTypes, Table, TableOptions, Times, table_of,
-};
+use asn1_notation_types::{Additions, NamedBits, OpenTypes, Table, TableOptions, Times, table_of};
 use asn1_table_extending::{ExtendingError, check_extends};
 use asn1_table_names::Names;
 use std::alloc::{AllocError, Global};
