@@ -8,14 +8,24 @@ use asn1_notation_tree::{Arc, ValueIndex, ValueKind};
 /// Whether the braces at the next item hold the parts of an object identifier, and have no other form.
 pub fn see_arcs(parser: &Parser<'_>) -> bool {
     match parser.peek_after(1) {
-        ItemKind::Number(_) => is_part(parser.peek_after(2)),
+        ItemKind::Number(_) => may_follow(parser.peek_after(2)),
         ItemKind::Identifier if is_opening(parser.peek_after(2)) => true,
         ItemKind::Identifier => {
             is_part(parser.peek_after(2))
-                && (is_part(parser.peek_after(3)) || is_opening(parser.peek_after(3)))
+                && (may_follow(parser.peek_after(3)) || is_opening(parser.peek_after(3)))
+        }
+        ItemKind::Reference => {
+            parser.peek_after(2) == ItemKind::Symbol(Symbol::Dot)
+                && parser.peek_after(3) == ItemKind::Identifier
+                && may_follow(parser.peek_after(4))
         }
         _ => false,
     }
+}
+
+/// Whether an item is a part of an object identifier after another one, or begins one, as the module of a value does.
+fn may_follow(kind: ItemKind) -> bool {
+    is_part(kind) || kind == ItemKind::Reference
 }
 
 /// Whether an item is a part of an object identifier, or begins one.
