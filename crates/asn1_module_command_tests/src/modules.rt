@@ -1,7 +1,7 @@
 //! Modules in which something is wrong, and command lines.
 use crate::common::{Row, SMALL, first_wrong, is_refused};
 use asn1_module_order::{Action, Extent, Form, names_modules, read_order};
-use asn1_notation_types::{Additions, OpenTypes};
+use asn1_notation_types::{Additions, NamedBits, OpenTypes, Times};
 use asn1_relay_core::Codec;
 use clap::error::ErrorKind;
 use std::alloc::Global;
@@ -74,7 +74,7 @@ fn is_bad(alloc: Global, words: &[&str]) -> bool {
 }
 
 /// A line with each option of a stream.
-const STREAM: [&str; 22] = [
+const STREAM: [&str; 26] = [
     "asn1_relay",
     "stream",
     "--module",
@@ -92,6 +92,10 @@ const STREAM: [&str; 22] = [
     "--required-additions",
     "--open-types",
     "octets",
+    "--named-bits",
+    "as-sent",
+    "--times",
+    "as-sent",
     "--hex",
     "--input",
     "in",
@@ -125,6 +129,8 @@ fn takes_options(alloc: Global) -> bool {
         && order.modules.len() == 2
         && order.options.additions == Additions::AreRequired
         && order.options.open_types == OpenTypes::AreOctets
+        && order.options.named_bits == NamedBits::AreAsSent
+        && order.options.times == Times::AreAsSent
         && has(&order.input, "in")
         && has(&order.output, "out")
 }

@@ -9,9 +9,13 @@ use Rattle.clap.specs.Words.{App, Kinds, Row, Rule, Text, all_of, fault_of, firs
 use Rattle.clap.specs.Words.{with_rule, with_subcommand}
 use Rattle.clap.specs.declared.builder.action.ArgAction.TheVariants.{Append, SetTrue}
 use Rattle.asn1_notation_types.specs.declared.tables.Additions.TheVariants.{AreRequired, MayBeAbsent}
+use Rattle.asn1_notation_types.specs.declared.tables.NamedBits.{NamedBits}
+use Rattle.asn1_notation_types.specs.declared.tables.NamedBits.TheVariants.{AreAsSent, AreRefused as BitsAreRefused}
 use Rattle.asn1_notation_types.specs.declared.tables.OpenTypes.{OpenTypes}
 use Rattle.asn1_notation_types.specs.declared.tables.OpenTypes.TheVariants.{AreOctets, AreRefused}
 use Rattle.asn1_notation_types.specs.declared.tables.TableOptions.{TableOptions}
+use Rattle.asn1_notation_types.specs.declared.tables.Times.{Times}
+use Rattle.asn1_notation_types.specs.declared.tables.Times.TheVariants.{AreAsSent as TimesAreAsSent, AreRefused as TimesAreRefused}
 use Rattle.asn1_relay_command.specs.Orders.{codec_by_name, hops_in_rows, limit_in_rows, limit_rule, name_app}
 use Rattle.asn1_relay_command.specs.Orders.{option_rule}
 use Rattle.asn1_relay_core.specs.declared.codec.Codec.{Codec}
@@ -63,9 +67,11 @@ module_rules = repeated_rule (codes "module") ∷ []
 abbrev pub version_rules : List Rule
 version_rules = repeated_rule (codes "old") ∷ repeated_rule (codes "new") ∷ []
 
--- [--open-types WORD] [--required-additions]
+-- [--open-types WORD] [--named-bits WORD] [--times WORD] [--required-additions]
 abbrev pub table_rules : List Rule
-table_rules = optional_rule (codes "open-types") ∷ flag_rule (codes "required-additions") ∷ []
+table_rules =
+    optional_rule (codes "open-types") ∷ optional_rule (codes "named-bits") ∷ optional_rule (codes "times")
+    ∷ flag_rule (codes "required-additions") ∷ []
 
 -- the same, and --type NAME --from FORM [--input FILE] [--hex]
 abbrev pub type_rules : List Rule
@@ -233,12 +239,25 @@ abbrev pub open_types_by_word : Option Text → Option OpenTypes
 open_types_by_word None = Some AreRefused
 open_types_by_word (Some word) = if bytes_eq word (codes "octets") then Some AreOctets else None
 
+-- named bits without a fixed size are refused, or kept as they are sent
+abbrev pub named_bits_by_word : Option Text → Option NamedBits
+named_bits_by_word None = Some BitsAreRefused
+named_bits_by_word (Some word) = if bytes_eq word (codes "as-sent") then Some AreAsSent else None
+
+-- times are refused, or kept as they are sent
+abbrev pub times_by_word : Option Text → Option Times
+times_by_word None = Some TimesAreRefused
+times_by_word (Some word) = if bytes_eq word (codes "as-sent") then Some TimesAreAsSent else None
+
 -- how the modules are understood
 abbrev pub options_in_rows : List Row → Option TableOptions
-options_in_rows rows = option_map (λ open_types. record {
+options_in_rows rows = option_and_then (λ open_types. option_and_then (λ named_bits. option_map (λ times. record {
   additions = if is_given_in (codes "required-additions") rows then AreRequired else MayBeAbsent;
   open_types = open_types;
-}) (open_types_by_word (first_of (codes "open-types") rows))
+  named_bits = named_bits;
+  times = times;
+}) (times_by_word (first_of (codes "times") rows))) (named_bits_by_word (first_of (codes "named-bits") rows)))
+    (open_types_by_word (first_of (codes "open-types") rows))
 
 -- the values of an option
 abbrev pub all_in_rows : Text → List Row → List Text

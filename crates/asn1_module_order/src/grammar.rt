@@ -79,6 +79,16 @@ fn with_options<'a>(alloc: Global, command: Command<'a>) -> Result<Command<'a>, 
             "open-types",
             "octets: what an open type holds is kept as it is encoded; else such messages are refused",
         ))?
+        .arg(optional(
+            alloc,
+            "named-bits",
+            "as-sent: zeros at the end of named bits without a fixed size are kept; else such types are refused",
+        ))?
+        .arg(optional(
+            alloc,
+            "times",
+            "as-sent: UTCTime and GeneralizedTime are kept as they are sent; else such messages are refused",
+        ))?
         .arg(flag(
             alloc,
             "required-additions",

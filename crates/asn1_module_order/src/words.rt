@@ -4,14 +4,15 @@ ghost use Rattle.std.specs.List.{list_any};
 ghost use Rattle.clap.specs.Words.{first_of, found_of, kind_of, rows_of, subcommand_rows_of};
 ghost use Rattle.asn1_module_order.specs.Orders.{CanBeDone, IsBounded, all_in_rows, asked_by, check_in_rows};
 ghost use Rattle.asn1_module_order.specs.Orders.{codec_in_rows, form_by_name, form_in_rows, is_given_in, is_option};
-ghost use Rattle.asn1_module_order.specs.Orders.{names_file_in, open_types_by_word, options_in_rows};
+ghost use Rattle.asn1_module_order.specs.Orders.{names_file_in, named_bits_by_word, open_types_by_word};
+ghost use Rattle.asn1_module_order.specs.Orders.{options_in_rows, times_by_word};
 ghost use Rattle.asn1_module_order.specs.Orders.{request_in_command, request_in_rows, request_of, request_with};
 ghost use Rattle.asn1_module_order.specs.Orders.{route_in_rows, route_with, stream_in_rows, task_in_rows, task_of};
 ghost use Rattle.asn1_module_order.specs.Orders.{translation_in_rows};
 
 use crate::grammar::grammar;
 use crate::order::{Action, Check, Extent, Form, Order, Route, Translation};
-use asn1_notation_types::{Additions, OpenTypes, TableOptions};
+use asn1_notation_types::{Additions, NamedBits, OpenTypes, TableOptions, Times};
 use asn1_relay_command::{codec_named, hops_in, limit_in};
 use asn1_relay_core::{Codec, Hop};
 use asn1_table_json_writing::Style;
@@ -196,11 +197,35 @@ fn open_types_named(word: Option<&str>) -> Option<OpenTypes>
     }
 }
 
+/// What becomes of named bits without a fixed size, if the option names something.
+fn named_bits_named(word: Option<&str>) -> Option<NamedBits>
+    ensures { result ≡ named_bits_by_word (option_map (λ s. s.now) word.entry) }
+{
+    match word {
+        None => Some(NamedBits::AreRefused),
+        Some("as-sent") => Some(NamedBits::AreAsSent),
+        Some(_) => None,
+    }
+}
+
+/// What becomes of times, if the option names something.
+fn times_named(word: Option<&str>) -> Option<Times>
+    ensures { result ≡ times_by_word (option_map (λ s. s.now) word.entry) }
+{
+    match word {
+        None => Some(Times::AreRefused),
+        Some("as-sent") => Some(Times::AreAsSent),
+        Some(_) => None,
+    }
+}
+
 /// How modules are understood, if each option names something.
 fn options_in(options: &ArgMatches<'_>) -> Option<TableOptions>
     ensures { result ≡ options_in_rows (rows_of (found_of options.now)) }
 {
     let open_types = open_types_named(value_in(options, "open-types"))?;
+    let named_bits = named_bits_named(value_in(options, "named-bits"))?;
+    let times = times_named(value_in(options, "times"))?;
     let additions = if is_given(options, "required-additions") {
         Additions::AreRequired
     } else {
@@ -209,6 +234,8 @@ fn options_in(options: &ArgMatches<'_>) -> Option<TableOptions>
     Some(TableOptions {
         additions,
         open_types,
+        named_bits,
+        times,
     })
 }
 

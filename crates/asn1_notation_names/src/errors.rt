@@ -60,7 +60,7 @@ pub enum Problem {
     #[error("this type is not supported")]
     UnsupportedType,
     /// Named bits without a fixed size (X.680 22.7).
-    #[error("a BIT STRING with named bits must have a fixed size")]
+    #[error("named bits without a fixed size are not supported, unless kept as sent (--named-bits as-sent)")]
     NamedBits,
     /// A CHOICE without a tag as an alternative of a CHOICE.
     #[error("an untagged CHOICE as an alternative is not supported")]

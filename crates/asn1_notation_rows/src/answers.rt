@@ -1,7 +1,7 @@
 //! What becomes of modules, as text.
 use asn1_notation_printing::{list_types, print_type};
 use asn1_notation_syntax::{Syntax, line_and_column, read_syntax};
-use asn1_notation_types::{Additions, Table, table_of};
+use asn1_notation_types::{Additions, NamedBits, OpenTypes, Table, TableOptions, Times, table_of};
 use asn1_table_extending::{ExtendingError, check_extends};
 use asn1_table_names::Names;
 use std::alloc::{AllocError, Global};
@@ -43,9 +43,9 @@ fn syntax_of(alloc: Global, text: &str) -> Result<Syntax, Stop> {
 }
 
 /// The table of a type of a text.
-fn table_in(alloc: Global, text: &str, name: &str, additions: Additions) -> Result<Table, Stop> {
+fn table_in(alloc: Global, text: &str, name: &str, options: TableOptions) -> Result<Table, Stop> {
     let files = [syntax_of(alloc, text)?];
-    match table_of(alloc, &files, None, name, additions.into()) {
+    match table_of(alloc, &files, None, name, options) {
         Ok(table) => Ok(table),
         Err(error) => {
             let offset = files[0].offset(error.place);
@@ -56,13 +56,29 @@ fn table_in(alloc: Global, text: &str, name: &str, additions: Additions) -> Resu
 
 /// What is said of a type of a text, whose additions may not be absent: nothing, if it has a table.
 pub fn fault_of(alloc: Global, text: &str, name: &str) -> Result<String, Stop> {
-    let _table = table_in(alloc, text, name, Additions::AreRequired)?;
+    let _table = table_in(alloc, text, name, Additions::AreRequired.into())?;
     Ok(String::from_str(alloc, "nothing")?)
 }
 
 /// The normal form of a type of a text, whose additions may be absent, if it is read as the same type again.
 pub fn normal_form(alloc: Global, text: &str, name: &str) -> Result<String, Stop> {
-    let table = table_in(alloc, text, name, Additions::MayBeAbsent)?;
+    form_of(alloc, text, name, Additions::MayBeAbsent.into())
+}
+
+/// The same, where times and zeros at the end of named bits without a fixed size are kept as they are sent.
+pub fn as_sent_form(alloc: Global, text: &str, name: &str) -> Result<String, Stop> {
+    let options = TableOptions {
+        additions: Additions::MayBeAbsent,
+        open_types: OpenTypes::AreRefused,
+        named_bits: NamedBits::AreAsSent,
+        times: Times::AreAsSent,
+    };
+    form_of(alloc, text, name, options)
+}
+
+/// The normal form of a type of a text that is understood so, if it is read as the same type again.
+fn form_of(alloc: Global, text: &str, name: &str, options: TableOptions) -> Result<String, Stop> {
+    let table = table_in(alloc, text, name, options)?;
     let text = print_type(alloc, &table.types, &table.names, table.place)?;
     check_again(alloc, &table, text.as_str())?;
     Ok(String::from_str(alloc, body(text.as_str()))?)
@@ -81,7 +97,7 @@ fn check_again(alloc: Global, table: &Table, text: &str) -> Result<(), Stop> {
         Some((name, _)) => name,
         None => "",
     };
-    let again = table_in(alloc, text, name, Additions::AreRequired)?;
+    let again = table_in(alloc, text, name, Additions::AreRequired.into())?;
     let other = print_type(alloc, &again.types, &again.names, again.place)?;
     if text != other.as_str() {
         return Err(Stop::Said(format!(in alloc; "printed again {other}")?));
@@ -94,15 +110,15 @@ fn check_again(alloc: Global, table: &Table, text: &str) -> Result<(), Stop> {
 
 /// The normal form of a type of a text without names.
 pub fn unnamed_form(alloc: Global, text: &str, name: &str) -> Result<String, Stop> {
-    let table = table_in(alloc, text, name, Additions::MayBeAbsent)?;
+    let table = table_in(alloc, text, name, Additions::MayBeAbsent.into())?;
     let text = print_type(alloc, &table.types, &Names::new(alloc), table.place)?;
     Ok(String::from_str(alloc, body(text.as_str()))?)
 }
 
 /// Whether a type of a newer text extends that of an older one, or why not.
 pub fn newer_of(alloc: Global, older: &str, newer: &str, name: &str) -> Result<String, Stop> {
-    let older = table_in(alloc, older, name, Additions::MayBeAbsent)?;
-    let newer = table_in(alloc, newer, name, Additions::MayBeAbsent)?;
+    let older = table_in(alloc, older, name, Additions::MayBeAbsent.into())?;
+    let newer = table_in(alloc, newer, name, Additions::MayBeAbsent.into())?;
     match extension(alloc, &older, &newer) {
         Ok(()) => Ok(String::from_str(alloc, "extends")?),
         Err(error) => Ok(format!(in alloc; "{error}")?),

@@ -4,7 +4,8 @@
 //! - `== LINE:COLUMN TEXT`: the modules are wrong. What is said of their type T, and where. With the name of another
 //!   type before it, what is said of that.
 //! - `== NAME`: after a line `=>`, the normal form of the type with this name: its text, which is read as the same type
-//!   again. `== unnamed` is that of the type T without the names of types, parts and items.
+//!   again. `== unnamed` is that of the type T without the names of types, parts and items, `== as-sent` that in which
+//!   times, and zeros at the end of named bits without a fixed size, are kept as they are sent.
 //! - `== newer ANSWER`: after a line `=>`, newer modules. Whether their type T `extends` that of the first ones, or why
 //!   it does not.
 //! - `== names`: after a line `=>`, the names of all types of the modules.

@@ -1,5 +1,5 @@
 //! Rows: what is asked for, modules, and what is to come.
-use crate::answers::{Stop, fault_of, names_of, newer_of, normal_form, unnamed_form};
+use crate::answers::{Stop, as_sent_form, fault_of, names_of, newer_of, normal_form, unnamed_form};
 use std::alloc::{AllocError, Global};
 
 /// The line between two texts of a row.
@@ -82,6 +82,7 @@ impl Row {
             ("newer", _) => newer_of(alloc, modules, self.second.as_str().trim_end(), TYPE),
             ("names", _) => names_of(alloc, modules),
             ("unnamed", _) => unnamed_form(alloc, modules, TYPE),
+            ("as-sent", _) => as_sent_form(alloc, modules, TYPE),
             (name, "") => normal_form(alloc, modules, name),
             (name, _) => fault_of(alloc, modules, name),
         }

@@ -121,7 +121,11 @@ pub fn see_object_after(parser: &Parser<'_>, count: usize) -> bool {
     }
     match parser.peek_after(first) {
         ItemKind::Field => true,
-        ItemKind::Reference | ItemKind::Word(_) => !matches!(
+        ItemKind::Reference => !matches!(
+            parser.peek_after(second),
+            ItemKind::Symbol(Symbol::Dot | Symbol::Colon)
+        ),
+        ItemKind::Word(_) => !matches!(
             parser.peek_after(second),
             ItemKind::Symbol(Symbol::Comma | Symbol::Dot | Symbol::Colon | Symbol::RightBrace)
         ),

@@ -2,7 +2,7 @@
 use crate::defaults::Defaults;
 use crate::events::fixed_size;
 use crate::parts::{is_last_of_group, is_required, root_order};
-use crate::tables::{OpenTypes, TableOptions};
+use crate::tables::{NamedBits, OpenTypes, TableOptions, Times};
 use asn1_notation_components::{
     Part, Parts, TaggedPart, alternatives_of, check_sequence, check_set, parts_of, tags_of_part,
 };
@@ -117,6 +117,10 @@ impl<'a, 'i> Building<'a, 'i> {
             TypeKind::Unsupported(UnsupportedType::Field(..)) => {
                 self.options.open_types == OpenTypes::AreOctets
             }
+            TypeKind::Unsupported(UnsupportedType::UtcTime | UnsupportedType::GeneralizedTime) => {
+                self.options.times == Times::AreAsSent
+            }
+            TypeKind::Unsupported(UnsupportedType::ObjectDescriptor) => true,
             TypeKind::Unsupported(_) => false,
             _ => true,
         }
@@ -222,6 +226,12 @@ impl<'a, 'i> Building<'a, 'i> {
             TypeKind::Unsupported(UnsupportedType::Field(..)) => {
                 Ok(TypeNode::OctetString(ANY_SIZE))
             }
+            TypeKind::Unsupported(UnsupportedType::UtcTime | UnsupportedType::GeneralizedTime) => {
+                Ok(any_string(StringKind::Visible))
+            }
+            TypeKind::Unsupported(UnsupportedType::ObjectDescriptor) => {
+                Ok(any_string(StringKind::Graphic))
+            }
             TypeKind::Tagged(..) | TypeKind::Reference(_) | TypeKind::Selection(..) => {
                 Err(base.error(Problem::UnsupportedType))
             }
@@ -315,7 +325,7 @@ impl<'a, 'i> Building<'a, 'i> {
         Ok(TypeNode::Enumerated(table))
     }
 
-    /// BIT STRING (X.680 22). With named bits its size must be fixed: the zeros at its end do not count (X.680 22.7).
+    /// BIT STRING (X.680 22). With named bits its size must be fixed, unless zeros at the end are kept (X.680 22.7).
     fn bit_string(
         &mut self,
         base: &Base<'_>,
@@ -325,7 +335,8 @@ impl<'a, 'i> Building<'a, 'i> {
         self.number_names(base, bits, names)?;
         self.check_bits(base, bits)?;
         let sizes = self.sizes(base)?;
-        if !bits.is_empty() && fixed_size(&sizes).is_none() {
+        let is_fixed = bits.is_empty() || fixed_size(&sizes).is_some();
+        if !is_fixed && self.options.named_bits == NamedBits::AreRefused {
             return Err(base.error(Problem::NamedBits));
         }
         Ok(TypeNode::BitString(sizes))
@@ -544,6 +555,15 @@ impl Grouped {
             components: Vec::new(alloc),
         }
     }
+}
+
+/// A character string of any size.
+fn any_string(kind: StringKind) -> TypeNode {
+    TypeNode::CharacterString(StringTable {
+        kind,
+        sizes: ANY_SIZE,
+        alphabet: None,
+    })
 }
 
 /// The kind of a character string (X.680 41), if tables hold it.

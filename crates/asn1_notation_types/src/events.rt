@@ -26,8 +26,8 @@ struct Valued<'a, 'b, 'i> {
     files: &'b Files<'a, 'i>,
     base: &'b Base<'a>,
     value: ValueUse,
-    /// The size of a BIT STRING with named bits, if it is fixed.
-    size: Option<usize>,
+    /// The sizes of a BIT STRING with named bits.
+    sizes: Option<Sizes>,
 }
 
 /// The size, if it is fixed.
@@ -110,10 +110,8 @@ fn written_event<'a>(
     base: &Base<'a>,
     value: ValueUse,
 ) -> Result<Event, NotationError> {
-    let size = match &base.term.kind {
-        TypeKind::BitString(names) if !names.is_empty() => {
-            fixed_size(&sizes(alloc, files, base)?)
-        }
+    let sizes = match &base.term.kind {
+        TypeKind::BitString(names) if !names.is_empty() => Some(sizes(alloc, files, base)?),
         _ => None,
     };
     let valued = Valued {
@@ -121,7 +119,7 @@ fn written_event<'a>(
         files,
         base,
         value,
-        size,
+        sizes,
     };
     match &base.term.kind {
         TypeKind::Boolean => valued.truth(),
@@ -205,7 +203,7 @@ impl Valued<'_, '_, '_> {
         Ok(Event::Bits(bits))
     }
 
-    /// Sets named bits (X.680 22.10).
+    /// Sets named bits (X.680 22.10), and adds zeros before them.
     fn set_named(
         self,
         at: ValueUse,
@@ -213,37 +211,44 @@ impl Valued<'_, '_, '_> {
         names: &[NamedNumber],
         bits: &mut Vec<bool>,
     ) -> Result<(), NotationError> {
-        if elements.is_empty() {
-            return Ok(());
-        }
-        self.fit(bits)?;
+        let most = self
+            .sizes
+            .as_ref()
+            .and_then(fixed_size)
+            .unwrap_or(MOST_BITS);
         for element in elements {
             let bit = ValueUse {
                 scope: at.scope,
                 index: element.value,
             };
             let number = integer_of(self.files, self.base.at.scope, names, bit)?;
-            let place = usize::try_from(number).ok();
-            match place.and_then(|place| bits.get_mut(place)) {
-                Some(bit) => *bit = true,
-                None => return Err(bit.error(self.files, Problem::ValueOfOtherType)),
+            let place = match usize::try_from(number) {
+                Ok(place) if place < most.min(MOST_BITS) => place,
+                Ok(place) if place < most => return Err(self.error(Problem::UnsupportedDefault)),
+                _ => return Err(bit.error(self.files, Problem::ValueOfOtherType)),
+            };
+            if bits.len() <= place {
+                bits.resize(place + 1, false)?;
+            }
+            if let Some(bit) = bits.get_mut(place) {
+                *bit = true;
             }
         }
         Ok(())
     }
 
-    /// Adds zeros to bits, or removes them from their end, up to the fixed size of the type (X.680 22.7).
+    /// Adds zeros to bits, or removes them from their end, down to the least size that the type allows (X.680 22.7).
     fn fit(self, bits: &mut Vec<bool>) -> Result<(), NotationError> {
-        let Some(size) = self.size else {
-            return Err(self.base.error(Problem::NamedBits));
+        let least = match &self.sizes {
+            Some(sizes) => sizes.root.minimum(),
+            None => 0,
         };
-        if size > MOST_BITS {
+        if least > MOST_BITS {
             return Err(self.error(Problem::UnsupportedDefault));
         }
-        let is_longer = bits.iter().skip(size).any(|bit| *bit);
-        if !is_longer {
-            bits.resize(size, false)?;
-        }
+        let zeros = bits.iter().rev().take_while(|bit| !**bit).count();
+        let used = bits.len() - zeros;
+        bits.resize(used.max(least), false)?;
         Ok(())
     }
 

@@ -10,4 +10,4 @@ mod parts;
 mod tables;
 
 pub use asn1_notation_resolving::{Explained, Near, NotationError, Problem};
-pub use tables::{Additions, OpenTypes, Table, TableOptions, table_of};
+pub use tables::{Additions, NamedBits, OpenTypes, Table, TableOptions, Times, table_of};

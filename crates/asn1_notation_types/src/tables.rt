@@ -30,6 +30,25 @@ pub enum OpenTypes {
     AreOctets,
 }
 
+/// What becomes of a BIT STRING with named bits and without a fixed size, of whose values zeros at the end are no part
+/// (X.680 22.7).
+#[derive(Clone, Copy, Debug, PartialEq, Eq)]
+pub enum NamedBits {
+    /// It is refused.
+    AreRefused,
+    /// It is understood as one without names: zeros at the end are kept as they are sent.
+    AreAsSent,
+}
+
+/// What becomes of UTCTime and GeneralizedTime (X.680 46 and 47).
+#[derive(Clone, Copy, Debug, PartialEq, Eq)]
+pub enum Times {
+    /// They have no values: only messages in which they are absent are translated.
+    AreRefused,
+    /// A time is kept as it is sent: a VisibleString, under the tag of its type.
+    AreAsSent,
+}
+
 /// How modules are understood.
 #[derive(Clone, Copy, Debug, PartialEq, Eq)]
 pub struct TableOptions {
@@ -37,14 +56,20 @@ pub struct TableOptions {
     pub additions: Additions,
     /// What becomes of open types.
     pub open_types: OpenTypes,
+    /// What becomes of named bits without a fixed size.
+    pub named_bits: NamedBits,
+    /// What becomes of times.
+    pub times: Times,
 }
 
 impl From<Additions> for TableOptions {
-    /// Open types are refused.
+    /// Open types, named bits without a fixed size, and times are refused.
     fn from(additions: Additions) -> Self {
         TableOptions {
             additions,
             open_types: OpenTypes::AreRefused,
+            named_bits: NamedBits::AreRefused,
+            times: Times::AreRefused,
         }
     }
 }
