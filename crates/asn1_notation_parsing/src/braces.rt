@@ -8,14 +8,27 @@ use asn1_notation_tree::{Arc, ValueIndex, ValueKind};
 /// Whether the braces at the next item hold the parts of an object identifier, and have no other form.
 pub fn see_arcs(parser: &Parser<'_>) -> bool {
     match parser.peek_after(1) {
-        ItemKind::Number(_) => is_part(parser.peek_after(2)),
+        ItemKind::Number(_) => see_part(parser, 2),
         ItemKind::Identifier if is_opening(parser.peek_after(2)) => true,
         ItemKind::Identifier => {
             is_part(parser.peek_after(2))
-                && (is_part(parser.peek_after(3)) || is_opening(parser.peek_after(3)))
+                && (see_part(parser, 3) || is_opening(parser.peek_after(3)))
+        }
+        ItemKind::Reference => {
+            parser.peek_after(2) == ItemKind::Symbol(Symbol::Dot)
+                && parser.peek_after(3) == ItemKind::Identifier
+                && see_part(parser, 4)
         }
         _ => false,
     }
+}
+
+/// Whether the item that comes this many items after the next one is a part of an object identifier, or begins one, as
+/// the module of a value does.
+fn see_part(parser: &Parser<'_>, count: usize) -> bool {
+    let kind = parser.peek_after(count);
+    let after = parser.peek_after(count.saturating_add(1));
+    is_part(kind) || (kind == ItemKind::Reference && after == ItemKind::Symbol(Symbol::Dot))
 }
 
 /// Whether an item is a part of an object identifier, or begins one.
