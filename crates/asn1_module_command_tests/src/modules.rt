@@ -1,6 +1,6 @@
 //! Modules in which something is wrong, and command lines.
 use crate::common::{Row, SMALL, first_wrong, is_refused};
-use asn1_module_order::{Action, Extent, Form, names_modules, read_order};
+use asn1_module_order::{Action, Extent, Form, has_module_command, names_modules, read_order};
 use asn1_notation_types::{Additions, NamedBits, OpenTypes, Times};
 use asn1_relay_core::Codec;
 use clap::error::ErrorKind;
@@ -152,6 +152,10 @@ fn command_lines(rt: HostRuntime) {
     assert!(rt; names_modules(&WORDS) && names_modules(&["p", "--module=m"]));
     assert!(rt; names_modules(&["p", "route", "--old", "m"]) && names_modules(&["p", "--new=m"]));
     assert!(rt; !names_modules(&["p", "once", "--type", "small"]));
+    assert!(rt;
+        has_module_command(&["p", "types", "--help"]) && has_module_command(&["p", "check"])
+    );
+    assert!(rt; !has_module_command(&["p", "once", "types"]) && !has_module_command(&["p"]));
     assert!(rt; takes_options(rt.alloc()));
     assert!(rt;
         is_bad(

@@ -136,6 +136,10 @@ abbrev pub names_file_in : Text → Bool
 names_file_in word =
     is_option (codes "--module") word || (is_option (codes "--old") word || is_option (codes "--new") word)
 
+-- a command is one that only lines with modules have
+abbrev pub is_of_modules : Text → Bool
+is_of_modules name = bytes_eq name (codes "check") || bytes_eq name (codes "types")
+
 -- ---- the requests
 
 -- what is done with a type

@@ -6,4 +6,4 @@ mod order;
 mod words;
 
 pub use order::{Action, Check, Extent, Form, Order, Route, Translation};
-pub use words::{names_modules, read_order};
+pub use words::{has_module_command, names_modules, read_order};

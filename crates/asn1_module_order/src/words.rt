@@ -1,9 +1,12 @@
 //! The words of a command line become an order.
-ghost use Rattle.std.specs.Prelude.{◌≡◌, ◌⊎◌, None, Some, IfErr, IfOk, IfSome, map, option_map, string_bytes};
+ghost use Rattle.std.specs.Prelude.{◌≡◌, ◌⊎◌, None, Some, IfErr, IfOk, IfSome, false, map, option_map, slice_get};
+ghost use Rattle.std.specs.Prelude.{string_bytes};
+ghost use Rattle.std.specs.Option.{option_map_or};
 ghost use Rattle.std.specs.List.{list_any};
 ghost use Rattle.clap.specs.Words.{first_of, found_of, kind_of, rows_of, subcommand_rows_of};
 ghost use Rattle.asn1_module_order.specs.Orders.{CanBeDone, IsBounded, all_in_rows, asked_by, check_in_rows};
 ghost use Rattle.asn1_module_order.specs.Orders.{codec_in_rows, form_by_name, form_in_rows, is_given_in, is_option};
+ghost use Rattle.asn1_module_order.specs.Orders.{is_of_modules};
 ghost use Rattle.asn1_module_order.specs.Orders.{names_file_in, named_bits_by_word, open_types_by_word};
 ghost use Rattle.asn1_module_order.specs.Orders.{options_in_rows, times_by_word};
 ghost use Rattle.asn1_module_order.specs.Orders.{request_in_command, request_in_rows, request_of, request_with};
@@ -46,6 +49,24 @@ pub fn names_modules<S: AsStr>(words: &[S]) -> bool
         }
     }
     false
+}
+
+/// Whether a command is one that only lines with modules have.
+fn is_of_modules(name: &str) -> bool
+    ensures { result ≡ is_of_modules name.now }
+{
+    matches!(name, "check" | "types")
+}
+
+/// Whether the command of a line, after the name of the program, is one that only lines with modules have, so that
+/// `read_order` reads it also if it names none.
+pub fn has_module_command<S: AsStr>(words: &[S]) -> bool
+    ensures { result ≡ option_map_or (λ word. is_of_modules (S.text word)) (slice_get words.now 1) false }
+{
+    match words.get(1) {
+        Some(word) => is_of_modules(word.as_str()),
+        None => false,
+    }
 }
 
 /// The value of an option, if it has one.
@@ -365,7 +386,7 @@ pub fn read_order<S: AsStr>(alloc: Global, words: &[S]) -> Result<Order, Error>
         None => Err(grammar.error(
             ErrorKind::InvalidValue,
             "--from and --to are the names of rules, or json in once and stream; --hop is old or new, a colon and \
-             rules; --open-types is octets",
+             rules; --open-types is octets; --named-bits and --times are as-sent",
         )?),
     }
 }

@@ -2,7 +2,7 @@
 #![tactic(auto)]
 
 use asn1_module_command::module_command;
-use asn1_module_order::names_modules;
+use asn1_module_order::{has_module_command, names_modules};
 use asn1_relay_command::{command, refuse_arguments};
 use std::process::ExitCode;
 use std::{env, io};
@@ -10,7 +10,7 @@ use std::{env, io};
 fn main(rt: HostRuntime) -> ExitCode {
     let mut errors = rt.stderr();
     let status = match arguments(&rt) {
-        Ok(words) if names_modules(words.as_slice()) => module_command(
+        Ok(words) if has_modules(words.as_slice()) => module_command(
             &rt,
             words.as_slice(),
             &mut rt.stdin(),
@@ -30,6 +30,11 @@ fn main(rt: HostRuntime) -> ExitCode {
         Err(error) => refuse_arguments(&error, &mut errors),
     };
     ExitCode::from(status)
+}
+
+/// Whether a command line is one with modules.
+fn has_modules(words: &[String]) -> bool {
+    names_modules(words) || has_module_command(words)
 }
 
 /// The program's name and the words after it.
