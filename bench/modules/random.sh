@@ -2,8 +2,8 @@
 # bench/modules/random.sh PROGRAM COUNT MODULE TYPE [MODULE TYPE ..]: COUNT random values of each type, made and encoded
 # in UPER and APER by Erlang's asn1ct (apt-get install erlang-asn1), go through the built program asn1_relay as streams:
 # from UPER to APER and from APER to UPER, whose octets are compared with Erlang's, and by way of COER, OER, strict PER
-# and JSON to both. MODULE is a file that has its module's name. It prints a line for each type, and ends with an error if
-# octets differ.
+# and JSON to both. MODULE is a file that has its module's name; OPTIONS, if it is set, has options of the program, such as
+# --named-bits as-sent. It prints a line for each type, and ends with an error if octets differ.
 here=$(cd "$(dirname "$0")" && pwd)
 program=$1 count=$2
 shift 2
@@ -13,7 +13,7 @@ status=0
 
 # translate FROM TO: a stream from standard input to standard output, octets as hexadecimal digits.
 translate() {
-    "$program" stream --module "$module" --type "$type" --from "$1" --to "$2" --limit 1000000 --hex
+    "$program" stream --module "$module" --type "$type" $OPTIONS --from "$1" --to "$2" --limit 1000000 --hex
 }
 
 # expect FILE WORDS: what is on standard input is the octets of FILE.
