@@ -13,7 +13,7 @@ use asn1_table_types::{Event, StringKind};
 use asn1_values_bit_strings::BitString;
 use asn1_values_identifiers::ObjectIdentifier;
 use asn1_values_integers::Integer;
-use std::alloc::Global;
+use std::alloc::{AllocError, Global};
 use std::borrow::CowSlice;
 
 /// How many bits a default with named bits has at most.
@@ -101,6 +101,32 @@ fn has_length(
     length: usize,
 ) -> Result<bool, NotationError> {
     Ok(!has_known_multiplier(kind) || has_size(alloc, files, base, length)?)
+}
+
+/// The octets in UTF-8 of the characters with these numbers, if each is that of one.
+fn utf8_of(alloc: Global, numbers: &[u32]) -> Result<Option<Vec<u8>>, AllocError> {
+    let mut text = String::new(alloc);
+    for number in numbers {
+        let Some(character) = char::from_u32(*number) else {
+            return Ok(None);
+        };
+        text.push(character)?;
+    }
+    let mut octets = Vec::new(alloc);
+    octets.extend_from_slice(text.as_bytes())?;
+    Ok(Some(octets))
+}
+
+/// An octet for each of these numbers, if none is above 255.
+fn octets_of(alloc: Global, numbers: &[u32]) -> Result<Option<Vec<u8>>, AllocError> {
+    let mut octets = Vec::new(alloc);
+    for number in numbers {
+        let Ok(octet) = u8::try_from(*number) else {
+            return Ok(None);
+        };
+        octets.push(octet)?;
+    }
+    Ok(Some(octets))
 }
 
 /// A value without parts, of a type.
@@ -263,18 +289,15 @@ impl Valued<'_, '_, '_> {
 
     /// A value of a character string (X.680 41.8): its characters by their numbers, or its octets in UTF-8.
     fn text(self, name: StringName) -> Result<Event, NotationError> {
-        let mut text = String::new(self.alloc);
-        let mut characters = Vec::new(self.alloc);
-        for character in characters_of(self.alloc, self.files, self.value)? {
-            let is_utf8 = matches!(name, StringName::Utf8);
-            match (char::from_u32(character), u8::try_from(character)) {
-                (Some(character), _) if is_utf8 => text.push(character)?,
-                (_, Ok(number)) if !is_utf8 => characters.push(number)?,
-                _ => return Err(self.error(Problem::UnsupportedDefault)),
-            }
+        let numbers = characters_of(self.alloc, self.files, self.value)?;
+        let octets = match name {
+            StringName::Utf8 => utf8_of(self.alloc, numbers.as_slice())?,
+            _ => octets_of(self.alloc, numbers.as_slice())?,
+        };
+        match octets {
+            Some(octets) => Ok(Event::Text(octets)),
+            None => Err(self.error(Problem::UnsupportedDefault)),
         }
-        characters.extend_from_slice(text.as_bytes())?;
-        Ok(Event::Text(characters))
     }
 
     /// A value of OCTET STRING (X.680 23.3): a bstring or an hstring, with zeros at its end to whole octets.
