@@ -15,7 +15,8 @@ use Rattle.asn1_notation_types.specs.declared.tables.OpenTypes.{OpenTypes}
 use Rattle.asn1_notation_types.specs.declared.tables.OpenTypes.TheVariants.{AreOctets, AreRefused}
 use Rattle.asn1_notation_types.specs.declared.tables.TableOptions.{TableOptions}
 use Rattle.asn1_notation_types.specs.declared.tables.Times.{Times}
-use Rattle.asn1_notation_types.specs.declared.tables.Times.TheVariants.{AreAsSent as TimesAreAsSent, AreRefused as TimesAreRefused}
+use Rattle.asn1_notation_types.specs.declared.tables.Times.TheVariants.{AreAsSent as TimesAreAsSent}
+use Rattle.asn1_notation_types.specs.declared.tables.Times.TheVariants.{AreRefused as TimesAreRefused}
 use Rattle.asn1_relay_command.specs.Orders.{codec_by_name, hops_in_rows, limit_in_rows, limit_rule, name_app}
 use Rattle.asn1_relay_command.specs.Orders.{option_rule}
 use Rattle.asn1_relay_core.specs.declared.codec.Codec.{Codec}
