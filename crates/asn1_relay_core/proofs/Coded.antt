@@ -21,7 +21,7 @@ use Rattle.asn1_relay_core.specs.declared.translation.RecodeFault.TheVariants.{N
 use Rattle.asn1_relay_core.specs.Coding.{rules_of, IsWritten, NotWritten}
 use Rattle.asn1_relay_core.specs.Recoding.{IsMessage, Answer, answered, not_an_encoding, surplus, no_target, IsAnswer}
 use Rattle.asn1_relay_core.specs.Recoding.{NamesMemoryAlone, NamesNoEarlierRefusal, NamesNoMisplacedCall}
-use Rattle.asn1_relay_core.specs.Recoding.{NamesNoPlatformSize, answer_of, source_fault_of, target_fault_of}
+use Rattle.asn1_relay_core.specs.Recoding.{NamesNoPlatformSize, refusal_of, source_fault_of, target_fault_of}
 use Rattle.asn1_laws_versions.proofs.Answers.{one_answer}
 
 module _ (source target : Rules) (schema : ℕ → Schema) (v : Value) (input rest : List ℕ) (t : Tells source schema v input rest) where
@@ -57,55 +57,35 @@ is_no_encoding source target schema input h front behind v e m = h v behind (rec
 
 -- ---- what was returned is right, and nothing else is
 
-pub record IsRight (c d : Codec) (s : Schema) (w : List ℕ) (x : Result (Vec ℕ Global) RecodeFault) : Type 0 where
-  pub right : IfSome (answer_of x) (IsAnswer (rules_of c) (rules_of d) s w)
-  pub exact : (a : Answer) → IsAnswer (rules_of c) (rules_of d) s w a → (answer_of x ≡ None) ⊎ (answer_of x ≡ Some a)
+module _ (c d : Codec) (schema : ℕ → Schema) (w : List ℕ) where
+  abbrev Right : Option Answer → Type 0
+  Right x = IfSome x (IsAnswer (rules_of c) (rules_of d) (schema 128) w)
 
-module _ (c d : Codec) (schema : ℕ → Schema) (w : List ℕ) (lawful : IsLawful (schema 128)) where
-  abbrev Rights : Result (Vec ℕ Global) RecodeFault → Type 0
-  Rights x = IsRight c d (schema 128) w x
+  not_read : (e : DecodeError) → NoMessage (rules_of c) schema w e → Right (refusal_of (source_fault_of e))
+  not_read Decoding.OutOfMemory h = tt
+  not_read e h = is_no_encoding (rules_of c) (rules_of d) schema w (h.none (λ q. cc))
 
-  only_right : (x y : Answer) → IsAnswer (rules_of c) (rules_of d) (schema 128) w x → IsAnswer (rules_of c) (rules_of d) (schema 128) w y → (Some x ≡ None) ⊎ (Some x ≡ Some y)
-  only_right x y p q = inr (ap Some (one_answer (rules_of c) (rules_of d) (schema 128) w lawful x y p q))
-
-  no_memory : Rights (Err Memory)
-  no_memory = record { right = tt; exact = λ a q. inl refl }
-
-  none_right : (e : DecodeError) → ((v : Value) (rest : List ℕ) → HasMessage (rules_of c) (schema 128) v w rest → ⊥) → Rights (Err (NotAnEncoding e))
-  none_right e h =
-      let r = is_no_encoding (rules_of c) (rules_of d) schema w h in
-      record { right = r; exact = λ a q. only_right not_an_encoding a r q }
-
-  not_read : (e : DecodeError) → NoMessage (rules_of c) schema w e → Rights (Err (source_fault_of e))
-  not_read Decoding.OutOfMemory h = no_memory
-  not_read e h = none_right e (h.none (λ q. cc))
-
-  pub right_not_read : (e : DecodeError) (f : RecodeFault) → NoMessage (rules_of c) schema w e → f ≡ source_fault_of e → Rights (Err f)
-  right_not_read e f h j = subst (λ x. Rights (Err x)) (sym j) (not_read e h)
+  pub right_not_read : (e : DecodeError) (f : RecodeFault) → NoMessage (rules_of c) schema w e → f ≡ source_fault_of e → Right (refusal_of f)
+  right_not_read e f h j = subst (λ x. Right (refusal_of x)) (sym j) (not_read e h)
 
   module _ (v : Value) (rest : List ℕ) (t : Tells (rules_of c) schema v w rest) where
-    pub right_surplus : rest ≢ [] → Rights (Err Surplus)
-    right_surplus n =
-        let r = is_surplus (rules_of c) (rules_of d) schema v w rest t n in
-        record { right = r; exact = λ a q. only_right surplus a r q }
+    pub right_surplus : rest ≢ [] → Right (refusal_of Surplus)
+    right_surplus n = is_surplus (rules_of c) (rules_of d) schema v w rest t n
 
     module _ (e : rest ≡ []) (i : IsValue schema v) where
-      pub right_answered : (o : Vec ℕ Global) → IsWritten (rules_of d) schema v (Some o.items) → Rights (Ok o)
-      right_answered o h =
-          let r = is_answered (rules_of c) (rules_of d) schema v w rest t o.items e i h in
-          record { right = r; exact = λ a q. only_right (answered o.items) a r q }
+      pub right_answered : (o : List ℕ) → IsWritten (rules_of d) schema v (Some o) → Right (Some (answered o))
+      right_answered o h = is_answered (rules_of c) (rules_of d) schema v w rest t o e i h
 
-      none_target : (x : EncodeError) → IsWritten (rules_of d) schema v None → Rights (Err (NoTarget x))
-      none_target x h =
-          let r = is_not_written (rules_of c) (rules_of d) schema v w rest t e i h in
-          record { right = r; exact = λ a q. only_right no_target a r q }
+      not_written : (x : EncodeError) → NotWritten (rules_of d) schema v x → Right (refusal_of (target_fault_of x))
+      not_written Encoding.OutOfMemory h = tt
+      not_written x h = is_not_written (rules_of c) (rules_of d) schema v w rest t e i (h.none (λ q. cc))
 
-      not_written : (x : EncodeError) → NotWritten (rules_of d) schema v x → Rights (Err (target_fault_of x))
-      not_written Encoding.OutOfMemory h = no_memory
-      not_written x h = none_target x (h.none (λ q. cc))
+      pub right_not_written : (x : EncodeError) (f : RecodeFault) → NotWritten (rules_of d) schema v x → f ≡ target_fault_of x → Right (refusal_of f)
+      right_not_written x f h j = subst (λ y. Right (refusal_of y)) (sym j) (not_written x h)
 
-      pub right_not_written : (x : EncodeError) (f : RecodeFault) → NotWritten (rules_of d) schema v x → f ≡ target_fault_of x → Rights (Err f)
-      right_not_written x f h j = subst (λ y. Rights (Err y)) (sym j) (not_written x h)
+  pub only_one : IsLawful (schema 128) → (x : Option Answer) → Right x → (a : Answer) → IsAnswer (rules_of c) (rules_of d) (schema 128) w a → (x ≡ None) ⊎ (x ≡ Some a)
+  only_one lawful None r a q = inl refl
+  only_one lawful (Some x) r a q = inr (ap Some (one_answer (rules_of c) (rules_of d) (schema 128) w lawful x a r q))
 
 -- ---- no octets remain
 

@@ -13,13 +13,17 @@ use Rattle.asn1_relay_core.specs.declared.translation.RecodeFault.{RecodeFault}
 use Rattle.asn1_relay_core.specs.declared.translation.RecodeFault.TheVariants.{NotAnEncoding, Surplus, NoTarget, Memory}
 use Rattle.asn1_relay_core.specs.Coding.{rules_of}
 
+-- The result that an error is, unless memory ran out.
+abbrev pub refusal_of : RecodeFault → Option Answer
+refusal_of (NotAnEncoding e) = Some not_an_encoding
+refusal_of Surplus = Some surplus
+refusal_of (NoTarget e) = Some no_target
+refusal_of Memory = None
+
 -- The result, unless memory ran out.
 abbrev pub answer_of : {Z : Type 0} → Result (Vec ℕ Z) RecodeFault → Option Answer
 answer_of (Ok octets) = Some (answered octets.items)
-answer_of (Err (NotAnEncoding e)) = Some not_an_encoding
-answer_of (Err Surplus) = Some surplus
-answer_of (Err (NoTarget e)) = Some no_target
-answer_of (Err Memory) = None
+answer_of (Err f) = refusal_of f
 
 -- Out of memory is an error of its own, and is nested in no other.
 abbrev pub NamesMemoryAlone : RecodeFault → Type 0

@@ -1,5 +1,5 @@
 //! The sets of encoding rules.
-ghost use Rattle.std.specs.Prelude.{◌≡◌, List, ℕ, Some, IfOk, IfErr};
+ghost use Rattle.std.specs.Prelude.{◌≡◌, ◌++◌, List, ℕ, Some, IfOk, IfErr, OnErr, OnOk};
 ghost use Rattle.asn1_schema_decode.specs.Messages.{NeedsMore, NoMessage, Tells};
 ghost use Rattle.asn1_relay_core.specs.Coding.{rules_of, kind_of, IsWritten, NotWritten};
 ghost use Rattle.asn1_schema_encode.specs.Written.{IsOfValue};
@@ -63,6 +63,37 @@ impl Codec {
             Codec::Coer => coer::encode(alloc, value)?,
         };
         Ok(octets)
+    }
+
+    /// Appends the canonical encoding of a value by these rules to the octets in `out`. The octets of PER, whose fields
+    /// need not begin at an octet of `out`, are first written in `room`, whose contents they replace. Nothing is
+    /// allocated if both have capacity for the message.
+    ///
+    /// # Errors
+    ///
+    /// As for `encode`; `out` then has its previous contents.
+    pub fn encode_into<T: Encode>(
+        self,
+        alloc: Global,
+        value: &T,
+        room: &mut Vec<u8>,
+        out: &mut Vec<u8>,
+    ) -> Result<(), EncodeError>
+        ensures ok { OnOk result ((octets : List ℕ)
+            × IsWritten (rules_of self) T.schema (T.meaning value.now) (Some octets)
+            × (out.new.items ≡ out.old.items ++ octets)) }
+        ensures only { IfErr result (NotWritten (rules_of self) T.schema (T.meaning value.now)) }
+        ensures kinds { IfErr result IsOfValue }
+        ensures same { OnErr result (out.new.items ≡ out.old.items) }
+    {
+        match self {
+            Codec::Oer => return oer::encode_buf(alloc, value, out),
+            Codec::Coer => return coer::encode_buf(alloc, value, out),
+            Codec::Uper | Codec::UperStrict => uper::encode_buf(alloc, value, room)?,
+            Codec::Aper | Codec::AperStrict => aper::encode_buf(alloc, value, room)?,
+        }
+        out.extend_from_slice(room.as_slice())?;
+        Ok(())
     }
 
     /// Decodes the value whose encoding by these rules begins the input. Octets after that encoding are ignored.

@@ -31,12 +31,13 @@ pub struct Way {
 }
 
 /// Translates the message with which `unread` begins, at most `way.limit` octets of it, and appends the translation to
-/// `out`.
+/// `out`, by way of `room`.
 pub fn relay_front<M: MessageType>(
     alloc: Global,
     message_type: &M,
     way: Way,
     unread: &[u8],
+    room: &mut Vec<u8>,
     out: &mut Vec<u8>,
 ) -> Attempt
     requires { unread.now ≢ [] }
@@ -55,7 +56,7 @@ pub fn relay_front<M: MessageType>(
     if count == 0 {
         return Attempt::Stops(RelayFaultKind::EmptyMessage);
     }
-    match write(alloc, message_type, way.to, &value, out) {
+    match write(alloc, message_type, way.to, &value, room, out) {
         Ok(()) => Attempt::Relayed(count),
         Err(kind) => Attempt::Stops(kind),
     }
@@ -79,6 +80,7 @@ fn write<M: MessageType>(
     message_type: &M,
     to: Codec,
     value: &M::Value,
+    room: &mut Vec<u8>,
     out: &mut Vec<u8>,
 ) -> Result<(), RelayFaultKind>
     ensures ok { OnOk result (AddsText (rules_of to) (M.schema message_type.now) (M.means message_type.now value.now)
@@ -86,16 +88,11 @@ fn write<M: MessageType>(
     ensures only { IfErr result (AddsNothing (rules_of to) (M.schema message_type.now)
         (M.means message_type.now value.now) out.old.items out.new.items) }
 {
-    let octets = match message_type.write(alloc, to, value) {
-        Ok(octets) => octets,
-        Err(EncodeError::OutOfMemory) => return Err(RelayFaultKind::Memory),
-        Err(_) => return Err(RelayFaultKind::NoTarget),
-    };
-    if octets.is_empty() {
-        return Err(RelayFaultKind::EmptyMessage);
-    }
-    match out.extend_from_slice(octets.as_slice()) {
+    let before = out.len();
+    match message_type.write_into(alloc, to, value, room, out) {
+        Ok(()) if out.len() == before => Err(RelayFaultKind::EmptyMessage),
         Ok(()) => Ok(()),
-        Err(_) => Err(RelayFaultKind::Memory),
+        Err(EncodeError::OutOfMemory) => Err(RelayFaultKind::Memory),
+        Err(_) => Err(RelayFaultKind::NoTarget),
     }
 }

@@ -36,5 +36,7 @@ pub use routing::{route, route_of};
 pub use running::{RunFault, run, run_of};
 pub use rust_type::RustType;
 pub use standard::{StdSink, StdSource, write_octets};
-pub use translation::{RecodeFault, detours_change_no_answer, recode, recode_of};
+pub use translation::{
+    RecodeFault, detours_change_no_answer, recode, recode_into, recode_into_of, recode_of,
+};
 pub use typed_relay::Relay;

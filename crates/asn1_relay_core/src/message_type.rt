@@ -1,5 +1,5 @@
 //! Types of messages.
-ghost use Rattle.std.specs.Prelude.{◌≡◌, ℕ, IfOk, IfErr};
+ghost use Rattle.std.specs.Prelude.{◌≡◌, ◌++◌, List, ℕ, IfOk, IfErr, OnErr, OnOk};
 ghost use Rattle.asn1_model.specs.Lawful.{IsLawful};
 ghost use Rattle.asn1_model.specs.Schema.{Schema};
 ghost use Rattle.asn1_model.specs.Value.{Value as ModelValue};
@@ -59,6 +59,32 @@ pub trait MessageType: MessageSchema {
             (λ octets. WrittenAs (rules_of to) (Self.schema self.now) (means self.now value.now) octets.items) }
         ensures only { IfErr result (NotWrittenAs (rules_of to) (Self.schema self.now) (means self.now value.now)) }
         ensures kinds { IfErr result IsOfValue };
+
+    /// Appends the canonical encoding of a value by these rules to the octets in `out`. It may first be written in
+    /// `room`, whose contents it then replaces.
+    ///
+    /// # Errors
+    ///
+    /// As for `write`; `out` then has its previous contents.
+    fn write_into(
+        &self,
+        alloc: Global,
+        to: Codec,
+        value: &Self::Value,
+        _room: &mut Vec<u8>,
+        out: &mut Vec<u8>,
+    ) -> Result<(), EncodeError>
+        ensures ok { OnOk result ((octets : List ℕ)
+            × WrittenAs (rules_of to) (Self.schema self.now) (means self.now value.now) octets
+            × (out.new.items ≡ out.old.items ++ octets)) }
+        ensures only { IfErr result (NotWrittenAs (rules_of to) (Self.schema self.now) (means self.now value.now)) }
+        ensures kinds { IfErr result IsOfValue }
+        ensures same { OnErr result (out.new.items ≡ out.old.items) }
+    {
+        let octets = self.write(alloc, to, value)?;
+        out.extend_from_slice(octets.as_slice())?;
+        Ok(())
+    }
 
     /// The type is well-formed (`is_lawful`).
     ghost lawful: { (m : Self) → IsLawful (Self.schema m 128) };

@@ -17,6 +17,8 @@ pub struct RelayOf<M: MessageSchema> {
     message_type: M,
     way: Way,
     unread: BytesMut,
+    // In which translations are written.
+    room: Vec<u8>,
     // While there are fewer unread octets than this, they do not begin with a whole message.
     awaited: usize,
     number: u64,
@@ -60,6 +62,7 @@ impl<M: MessageType> RelayOf<M> {
             message_type,
             way: Way { from, to, limit },
             unread: BytesMut::new(alloc),
+            room: Vec::new(alloc),
             awaited: 0,
             number: 0,
             failed: false,
@@ -122,6 +125,7 @@ impl<M: MessageType> RelayOf<M> {
                 &self.message_type,
                 self.way,
                 self.unread.as_slice(),
+                &mut self.room,
                 out,
             ) {
                 Attempt::Relayed(count) => {

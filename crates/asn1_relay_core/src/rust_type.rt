@@ -52,6 +52,18 @@ impl<T: Encode + Decode> MessageType for RustType<T> {
         to.encode(alloc, value)
     }
 
+    #[inline(always)]
+    fn write_into(
+        &self,
+        alloc: Global,
+        to: Codec,
+        value: &T,
+        room: &mut Vec<u8>,
+        out: &mut Vec<u8>,
+    ) -> Result<(), EncodeError> {
+        to.encode_into(alloc, value, room, out)
+    }
+
     ghost lawful = { λ _. T.typed.lawful 128 };
 
     ghost valued = { λ _ x v e. subst (IsValue T.schema) e (T.valued x) };

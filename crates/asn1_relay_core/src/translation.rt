@@ -1,7 +1,9 @@
 //! Translation of one message from one set of encoding rules to another.
-ghost use Rattle.std.specs.Prelude.{◌≡◌, ◌⊎◌, None, Some, IfErr, IfSome};
+ghost use Rattle.std.specs.Prelude.{◌≡◌, ◌⊎◌, ◌++◌, [], List, ℕ, None, Some, IfErr, IfOk, IfSome, OnErr, OnOk};
 ghost use Rattle.asn1_relay_core.specs.Coding.{rules_of};
-ghost use Rattle.asn1_relay_core.specs.Recoding.{answer_of, Answer, IsAnswer, NamesMemoryAlone, NamesNoEarlierRefusal};
+ghost use Rattle.asn1_relay_core.specs.MessageTypes.{TellsAs};
+ghost use Rattle.asn1_relay_core.specs.Recoding.{answer_of, answered, refusal_of, Answer, IsAnswer, NamesMemoryAlone};
+ghost use Rattle.asn1_relay_core.specs.Recoding.{NamesNoEarlierRefusal};
 ghost use Rattle.asn1_relay_core.specs.Recoding.{DetoursChangeNoAnswer, NamesNoMisplacedCall, NamesNoPlatformSize};
 ghost use Rattle.asn1_relay_core.specs.Strictly.{StrictIsReadCanonically};
 
@@ -114,6 +116,86 @@ pub fn recode<T: Encode + Decode>(
     recode_of(alloc, &RustType::<T>::new(), from, to, input)
 }
 
+/// Reads the value of which the input is the one encoding.
+fn read_alone<M: MessageType>(
+    alloc: Global,
+    message_type: &M,
+    from: Codec,
+    input: &[u8],
+) -> Result<M::Value, RecodeFault>
+    ensures ok { IfOk result
+        (λ x. TellsAs (rules_of from) (M.schema message_type.now) (M.means message_type.now x) input.now []) }
+    ensures only { IfErr result (λ f. (to : Codec) → IfSome (refusal_of f)
+        (IsAnswer (rules_of from) (rules_of to) (M.schema message_type.now 128) input.now)) }
+    ensures memory { IfErr result NamesMemoryAlone }
+    ensures fresh { IfErr result NamesNoEarlierRefusal }
+    ensures in_place { IfErr result NamesNoMisplacedCall }
+    ensures fits { IfErr result NamesNoPlatformSize }
+{
+    let (value, rest) = message_type.read_front(alloc, from, input)?;
+    if !rest.is_empty() {
+        return Err(RecodeFault::Surplus);
+    }
+    Ok(value)
+}
+
+/// As `recode`, but appends the translation to the octets in `out`. It may first be written in `room`, whose contents it
+/// then replaces: where both have capacity for it, no memory is needed for what is written.
+///
+/// # Errors
+///
+/// As for `recode`; `out` then has its previous contents.
+#[inline(always)]
+pub fn recode_into<T: Encode + Decode>(
+    alloc: Global,
+    from: Codec,
+    to: Codec,
+    input: &[u8],
+    room: &mut Vec<u8>,
+    out: &mut Vec<u8>,
+) -> Result<(), RecodeFault>
+    ensures right { OnOk result ((octets : List ℕ) × (out.new.items ≡ out.old.items ++ octets)
+        × IsAnswer (rules_of from) (rules_of to) (T.schema 128) input.now (answered octets)) }
+    ensures only { IfErr result (λ f. IfSome (refusal_of f)
+        (IsAnswer (rules_of from) (rules_of to) (T.schema 128) input.now)) }
+    ensures same { OnErr result (out.new.items ≡ out.old.items) }
+    ensures memory { IfErr result NamesMemoryAlone }
+    ensures fresh { IfErr result NamesNoEarlierRefusal }
+    ensures in_place { IfErr result NamesNoMisplacedCall }
+    ensures fits { IfErr result NamesNoPlatformSize }
+{
+    recode_into_of(alloc, &RustType::<T>::new(), from, to, input, room, out)
+}
+
+/// As `recode_into`, for messages of a type that is passed.
+///
+/// # Errors
+///
+/// As for `recode_into`.
+pub fn recode_into_of<M: MessageType>(
+    alloc: Global,
+    message_type: &M,
+    from: Codec,
+    to: Codec,
+    input: &[u8],
+    room: &mut Vec<u8>,
+    out: &mut Vec<u8>,
+) -> Result<(), RecodeFault>
+    ensures right { OnOk result ((octets : List ℕ) × (out.new.items ≡ out.old.items ++ octets)
+        × IsAnswer (rules_of from) (rules_of to) (M.schema message_type.now 128) input.now (answered octets)) }
+    ensures only { IfErr result (λ f. IfSome (refusal_of f)
+        (IsAnswer (rules_of from) (rules_of to) (M.schema message_type.now 128) input.now)) }
+    ensures same { OnErr result (out.new.items ≡ out.old.items) }
+    ensures memory { IfErr result NamesMemoryAlone }
+    ensures fresh { IfErr result NamesNoEarlierRefusal }
+    ensures in_place { IfErr result NamesNoMisplacedCall }
+    ensures fits { IfErr result NamesNoPlatformSize }
+{
+    let value = read_alone(alloc, message_type, from, input)?;
+    message_type.write_into(alloc, to, &value, room, out)?;
+    Ok(())
+}
+
 /// As `recode`, for messages of a type that is passed.
 ///
 /// # Errors
@@ -136,9 +218,6 @@ pub fn recode_of<M: MessageType>(
     ensures in_place { IfErr result NamesNoMisplacedCall }
     ensures fits { IfErr result NamesNoPlatformSize }
 {
-    let (value, rest) = message_type.read_front(alloc, from, input)?;
-    if !rest.is_empty() {
-        return Err(RecodeFault::Surplus);
-    }
+    let value = read_alone(alloc, message_type, from, input)?;
     Ok(message_type.write(alloc, to, &value)?)
 }
