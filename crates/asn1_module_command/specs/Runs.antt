@@ -5,7 +5,6 @@ use Rattle.asn1_model.specs.Lawful.{is_of}
 use Rattle.asn1_model.specs.Schema.{Schema}
 use Rattle.asn1_model.specs.Value.{Value}
 use Rattle.asn1_model.specs.Versions.{Extends}
-use Rattle.asn1_module_tables.specs.Errors.{IsOfVersions}
 use Rattle.asn1_notation_types.specs.declared.tables.Table.{Table}
 use Rattle.asn1_relay_command.specs.Runs.{DoesOnceAs, DoesRouteAs, DoesStreamAs, HasWritten, IsRunFaultAs, IsUntouched}
 use Rattle.asn1_relay_command.specs.Runs.{Known, StopsOnceAs, StopsRouteAs}
@@ -19,6 +18,7 @@ use Rattle.asn1_module_command.specs.declared.errors.CommandError.{CommandError}
 use Rattle.asn1_module_command.specs.declared.errors.CommandError.TheVariants as error
 use Rattle.asn1_module_command.specs.declared.errors.Stop.{Stop}
 use Rattle.asn1_module_command.specs.declared.errors.Stop.TheVariants as stop
+use Rattle.asn1_module_order.specs.Errors.{IsOfVersions}
 use Rattle.asn1_module_order.specs.Orders.{Request, request_of}
 use Rattle.asn1_module_order.specs.declared.order.Action.{Action}
 use Rattle.asn1_module_order.specs.declared.order.Action.TheVariants as action

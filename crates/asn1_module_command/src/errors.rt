@@ -1,7 +1,7 @@
 //! Why the program stops, and its messages.
 ghost use Rattle.std.specs.Prelude.{◌≡◌};
 
-use asn1_module_tables::ModuleError;
+use asn1_module_order::ModuleError;
 use asn1_relay_command::Fault;
 use asn1_relay_core::RunFault;
 use asn1_table_json_reading::JsonError;

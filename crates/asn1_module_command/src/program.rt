@@ -10,8 +10,10 @@ use crate::checking::check_message;
 use crate::errors::{CommandError, Stop};
 use crate::routing::send;
 use crate::translating::translate;
-use asn1_module_order::{Action, Check, Order, Route, Translation, read_order};
-use asn1_module_tables::{Source, older_table, read_files, table_named, write_module_error};
+use asn1_module_order::{
+    Action, Check, Order, Route, Source, Translation, older_table, read_files, read_order,
+    table_named, write_module_error,
+};
 use asn1_notation_printing::{list_types, print_type};
 use asn1_notation_syntax::Syntax;
 use asn1_notation_types::Table;

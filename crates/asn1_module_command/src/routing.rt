@@ -2,18 +2,17 @@
 ghost use Rattle.std.specs.Prelude.{◌≡◌, ◌≢◌, [], IfErr, IfOk, MatchResult};
 ghost use Rattle.asn1_relay_command.specs.Runs.{ComesAs, DoesRouteAs, IsTurnedBackAs, StopsRouteAs};
 ghost use Rattle.asn1_relay_core.specs.Routing.{arrived};
-ghost use Rattle.asn1_table_routes.specs.Schemas.{IsNewer, newer_of, older_of};
+ghost use Rattle.asn1_table_relay.specs.Schemas.{IsNewer, newer_of, older_of};
 ghost use Rattle.asn1_module_command.specs.Runs.{HasRouted, StopsRouting, StopsSending, schema_in};
-ghost use Rattle.asn1_module_tables.specs.Errors.{IsOfVersions};
+ghost use Rattle.asn1_module_order.specs.Errors.{IsOfVersions};
 
 use crate::errors::{CommandError, Stop};
 use crate::hexadecimal::{line_of, octets_of};
-use asn1_module_order::Route;
-use asn1_module_tables::{ModuleError, not_extended};
+use asn1_module_order::{ModuleError, Route, not_extended};
 use asn1_notation_types::Table;
 use asn1_relay_command::{Fault, read_all, write_all};
 use asn1_relay_core::{Codec, Hop};
-use asn1_table_routes::{Versions, route_by};
+use asn1_table_relay::{Versions, route_by};
 use std::alloc::Global;
 use std::io::{Read, Write};
 

@@ -1,7 +1,6 @@
 //! Helpers of the tests.
 use asn1_module_command::obey;
-use asn1_module_order::read_order;
-use asn1_module_tables::Source;
+use asn1_module_order::{Source, read_order};
 use std::alloc::Global;
 
 /// A module whose type `Awareness` the tests translate.

@@ -5,7 +5,7 @@ use asn1_relay_vectors_judging::cuts::Inputs;
 use asn1_relay_vectors_judging::routes::{Claim, Versions, Way, judge};
 use asn1_relay_vectors_lines::line::{LineError, Verdict};
 use asn1_relay_vectors_lines::route::Arrival;
-use asn1_table_routes::route_by;
+use asn1_table_relay::route_by;
 use std::alloc::Global;
 
 /// An older and a newer version of a type.
@@ -21,7 +21,7 @@ impl Versions for TablePair {
             return Err(LineError::Form);
         }
         let (older, newer) = (&self.older.0, &self.newer.0);
-        match asn1_table_routes::Versions::new(
+        match asn1_table_relay::Versions::new(
             alloc,
             &older.types,
             older.place,

@@ -1,6 +1,5 @@
 //! Why no value is read from JSON.
-use asn1_table_authoring::StepError;
-use asn1_table_building::BuildError;
+use asn1_table_building::{BuildError, StepError};
 use hex::FromHexError;
 use std::alloc::{AllocError, AllocFailed};
 use std::fmt;

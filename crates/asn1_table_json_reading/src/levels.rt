@@ -3,8 +3,8 @@
 
 use crate::errors::JsonErrorKind;
 use asn1_schema_tags::Chosen;
+use asn1_table_json_writing::{Step, push_step};
 use asn1_table_names::{Names, Part};
-use asn1_table_paths::{Step, push_step};
 use asn1_table_types::Types;
 use std::alloc::{AllocError, Global};
 

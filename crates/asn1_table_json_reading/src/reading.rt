@@ -2,16 +2,15 @@
 #![tactic(auto, using(std::proofs::lemmas::Grind::common_steps))]
 
 ghost use Rattle.std.specs.Prelude.{◌≡◌, ◌≤◌, length, IfOk, IfErr};
-ghost use Rattle.asn1_table_authoring.specs.Steps.{IsSameType};
 ghost use Rattle.asn1_table_building.specs.Built.{IsTapeOf};
+ghost use Rattle.asn1_table_building.specs.Steps.{IsSameType};
 ghost use Rattle.asn1_table_nodes.specs.Meaning.{type_at};
 
 use crate::errors::{JsonError, JsonErrorKind};
 use crate::finding::{find_alternative, find_part};
 use crate::levels::{BitsMember, BitsMembers, Choosing, Level, Levels};
 use crate::scalars::{form_of, length_of, object_bits, octets_of, scalar_of};
-use asn1_table_authoring::{StepError, TapeBuilder};
-use asn1_table_building::{BuildError, build};
+use asn1_table_building::{BuildError, StepError, TapeBuilder, build};
 use asn1_table_names::{Names, is_list, is_sequence};
 use asn1_table_tape::Event;
 use asn1_table_types::{TypeNode, Types};

@@ -9,7 +9,7 @@
 //!
 //! A component without an identifier has the name `component_3` for the root component at index 3, `addition_3` for an
 //! addition, and `addition_3_1` in a group of additions; an alternative `alternative_3` or `addition_3`. An identifier
-//! has no underscore (X.680 12.3).
+//! has no underscore (X.680 12.3). Paths to parts of a value, as in `a.b[2].c`, have the same names.
 #![tactic(auto, using(std::proofs::lemmas::Grind::common_steps))]
 
 mod decimals;
@@ -17,6 +17,7 @@ mod errors;
 mod labels;
 mod output;
 mod sizes;
+mod steps;
 mod strings;
 mod writing;
 
@@ -25,4 +26,5 @@ pub use errors::WriteError;
 pub use labels::{alternative_label, part_label};
 pub use output::Style;
 pub use sizes::fixed_size;
+pub use steps::{Step, push_step};
 pub use writing::write_json;

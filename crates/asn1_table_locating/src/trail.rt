@@ -1,7 +1,7 @@
 //! The path to what comes next of a value whose tape ends early.
 use asn1_schema_tags::Chosen;
+use asn1_table_json_writing::{Step, push_step};
 use asn1_table_names::{Names, Part, alternative_of, component_at};
-use asn1_table_paths::{Step, push_step};
 use asn1_table_tape::{Event, elements_at};
 use asn1_table_types::Types;
 use std::alloc::{AllocError, Global};

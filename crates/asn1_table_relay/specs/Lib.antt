@@ -1,2 +1,3 @@
-pub mod Tapes
+pub mod Schemas
 pub mod Streams
+pub mod Tapes

@@ -11,11 +11,11 @@ ghost use Rattle.asn1_table_tape.specs.Records.{records_of};
 ghost use Rattle.asn1_table_walker.specs.Fronts.{TellsOnto};
 ghost use Rattle.asn1_table_walker.specs.Texts.{EncodedIn, NotEncodedIn};
 
+use crate::oer::{decode_oer, encode_oer};
+use crate::per::{decode_per, encode_per};
 use asn1_relay_core::Codec;
 use asn1_schema_decode::Refusal;
 use asn1_schema_errors::{DecodeError, EncodeError};
-use asn1_table_oer::{decode_oer, encode_oer};
-use asn1_table_per::{decode_per, encode_per};
 use asn1_table_tape::Event;
 use asn1_table_types::Types;
 use oer_codec::oer::EncodingRules;

@@ -3,7 +3,7 @@ use crate::values::{encoded, text_of};
 use crate::words::event_of;
 use asn1_notation_types::Table;
 use asn1_schema_tags::Chosen;
-use asn1_table_authoring::{StepError, TapeBuilder};
+use asn1_table_building::{StepError, TapeBuilder};
 use asn1_table_json_writing::Style;
 use asn1_table_names::Part;
 use asn1_table_tape::Event;

@@ -3,7 +3,7 @@ use crate::words::octets_of;
 use asn1_notation_types::Table;
 use asn1_table_json_reading::read_json;
 use asn1_table_json_writing::{Style, write_json};
-use asn1_table_oer::{decode_oer, encode_oer};
+use asn1_table_relay::{decode_oer, encode_oer};
 use asn1_table_tape::Event;
 use oer_codec::oer::EncodingRules;
 use std::alloc::{AllocError, Global};

@@ -1,6 +1,6 @@
 use Rattle.std.proofs.Common.{refl, subst}
 use Rattle.asn1_relay_command.specs.Runs.{DoesRouteAs, StopsRouteAs}
-use Rattle.asn1_table_routes.specs.Schemas.{newer_of, older_of}
+use Rattle.asn1_table_relay.specs.Schemas.{newer_of, older_of}
 use Rattle.asn1_module_command.proofs.Routed.{in_digits}
 use Rattle.asn1_module_command.proofs.routing.send_between.Goals as goal
 

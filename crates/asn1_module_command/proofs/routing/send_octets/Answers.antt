@@ -4,7 +4,7 @@ use Rattle.asn1_relay_core.specs.Ends.{BeginsToAppend}
 use Rattle.asn1_relay_core.specs.Routing.{arrived}
 use Rattle.asn1_relay_command.proofs.Answered.{answer_written}
 use Rattle.asn1_relay_command.specs.Runs.{ComesAs, IsSent, StopsRouteAs}
-use Rattle.asn1_table_routes.specs.Schemas.{newer_of, older_of}
+use Rattle.asn1_table_relay.specs.Schemas.{newer_of, older_of}
 use Rattle.asn1_module_command.proofs.routing.send_octets.Goals as goal
 
 pub returns : goal.returns

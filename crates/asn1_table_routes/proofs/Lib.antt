@@ -1,2 +1,0 @@
-pub mod Unfolded
-pub mod Known
