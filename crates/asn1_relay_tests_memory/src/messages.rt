@@ -1,7 +1,7 @@
 //! Calls on one message, in each set of rules.
 use crate::common::is_right;
 use asn1_relay_core::Codec;
-use asn1_relay_trials::{Decodes, Encodes, EncodesInto, Recodes, is_ample};
+use asn1_relay_trials::{Decodes, Encodes, EncodesInto, Recodes, RecodesInto, is_ample};
 
 #[test]
 fn ample_uper_encode(rt: HostRuntime) {
@@ -181,4 +181,24 @@ fn ample_recode_coer_to_uper(rt: HostRuntime) {
 #[test]
 fn refused_recode_coer_to_uper(rt: HostRuntime) {
     assert!(rt; is_right::<Recodes>(rt.alloc(), Codec::Coer));
+}
+
+#[test]
+fn ample_uper_recode_into(rt: HostRuntime) {
+    assert!(rt; is_ample::<RecodesInto>(rt.alloc(), Codec::Uper));
+}
+
+#[test]
+fn refused_uper_recode_into(rt: HostRuntime) {
+    assert!(rt; is_right::<RecodesInto>(rt.alloc(), Codec::Uper));
+}
+
+#[test]
+fn ample_coer_recode_into(rt: HostRuntime) {
+    assert!(rt; is_ample::<RecodesInto>(rt.alloc(), Codec::Coer));
+}
+
+#[test]
+fn refused_coer_recode_into(rt: HostRuntime) {
+    assert!(rt; is_right::<RecodesInto>(rt.alloc(), Codec::Coer));
 }

@@ -13,7 +13,7 @@ mod streams;
 mod trial;
 
 pub use fronts::{Appends, Front, Nexts};
-pub use messages::{Decodes, Encodes, EncodesInto, Recodes};
+pub use messages::{Decodes, Encodes, EncodesInto, Recodes, RecodesInto};
 pub use parcel::{Parcel, ParcelFields};
 pub use parts::{Inserts, ReadsFields, WritesFields, WritesIdentifier};
 pub use routes::Routes;

@@ -1,7 +1,7 @@
 //! Calls on one message.
 use crate::parcel::{Parcel, is_parcel, parcel, parcels};
 use crate::trial::{Outcome, Trial};
-use asn1_relay_core::{Codec, DecodeError, EncodeError, RecodeFault, recode};
+use asn1_relay_core::{Codec, DecodeError, EncodeError, RecodeFault, recode, recode_into};
 use oer_codec::{coer, oer};
 use per_codec::{aper, aper_strict, uper, uper_strict};
 use std::alloc::{AllocError, Global};
@@ -192,6 +192,59 @@ impl Trial for Recodes {
         let target = target_of(self.codec);
         let answer = recode::<Parcel>(self.alloc, self.codec, target, parcels(self.codec, 1));
         recoded(&answer, parcels(target, 1))
+    }
+
+    fn again(&mut self) -> bool {
+        self.call() == Outcome::Ample
+    }
+}
+
+/// `recode_into` from one set of rules, after an octet.
+#[derive(Drop)]
+pub struct RecodesInto {
+    alloc: Global,
+    codec: Codec,
+    room: Vec<u8>,
+    out: Vec<u8>,
+}
+
+impl RecodesInto {
+    fn translate(&mut self, target: Codec) -> Result<(), RecodeFault> {
+        let input = parcels(self.codec, 1);
+        recode_into::<Parcel>(
+            self.alloc,
+            self.codec,
+            target,
+            input,
+            &mut self.room,
+            &mut self.out,
+        )
+    }
+
+    /// Whether these octets are there, after the one that was there before.
+    fn holds(&self, octets: &[u8]) -> bool {
+        self.out.as_slice().strip_prefix(&[0xAA]) == Some(octets)
+    }
+}
+
+impl Trial for RecodesInto {
+    type Plan = Codec;
+
+    fn begin(alloc: Global, plan: Codec) -> Result<RecodesInto, AllocError> {
+        Ok(RecodesInto {
+            alloc,
+            codec: plan,
+            room: Vec::new(alloc),
+            out: Vec::from_slice(alloc, &[0xAA])?,
+        })
+    }
+
+    fn call(&mut self) -> Outcome {
+        let target = target_of(self.codec);
+        match self.translate(target) {
+            Ok(()) => Outcome::of(self.holds(parcels(target, 1))),
+            Err(fault) => Outcome::of_want(fault == RecodeFault::Memory && self.holds(&[])),
+        }
     }
 
     fn again(&mut self) -> bool {

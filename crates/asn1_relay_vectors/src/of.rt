@@ -91,10 +91,7 @@ fn read_front<'input, T: Decode>(
 
 /// Encodes a value of a type.
 fn encode<T: Encode>(alloc: Global, codec: Codec, value: &T) -> Encoded {
-    match codec {
-        Codec::Uper | Codec::UperStrict => uper::encode(alloc, value),
-        Codec::Aper | Codec::AperStrict => aper::encode(alloc, value),
-        Codec::Oer => oer::encode(alloc, value),
-        Codec::Coer => coer::encode(alloc, value),
-    }
+    let mut octets = Vec::new(alloc);
+    codec.encode_into(alloc, value, &mut Vec::new(alloc), &mut octets)?;
+    Ok(octets)
 }

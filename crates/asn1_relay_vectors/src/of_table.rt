@@ -2,9 +2,9 @@
 use crate::assignments::Assignments;
 use crate::relays::{feed_pieces, follow_octets};
 use asn1_notation_types::Table;
-use asn1_relay_core::{DecodeError, MemorySink, MemorySource, MessageType};
+use asn1_relay_core::{Codec, DecodeError, MemorySink, MemorySource, MessageType};
 use asn1_relay_vectors_judging::cuts::Inputs;
-use asn1_relay_vectors_judging::judged::{Judged, Ran, Rules, Step, Told, Translated};
+use asn1_relay_vectors_judging::judged::{Encoded, Judged, Ran, Rules, Step, Told, Translated};
 use asn1_relay_vectors_judging::judging::judge;
 use asn1_relay_vectors_judging::streams::{Relayed, Way};
 use asn1_relay_vectors_lines::line::{Line, Verdict};
@@ -44,8 +44,7 @@ impl Judged for OfTable {
         };
         match messages.read_front(alloc, rules.from, octets) {
             Ok((value, rest)) => {
-                let encoded = messages.write(alloc, rules.to, &value);
-                Ok(Told::new(octets, rest, encoded))
+                Ok(Told::new(octets, rest, encode(alloc, &messages, rules.to, &value)))
             }
             Err(refusal) => Err(refusal.error),
         }
@@ -90,6 +89,13 @@ impl Judged for OfTable {
         );
         Some((answer, sink))
     }
+}
+
+/// Encodes a value of a type.
+fn encode<M: MessageType>(alloc: Global, messages: &M, to: Codec, value: &M::Value) -> Encoded {
+    let mut octets = Vec::new(alloc);
+    messages.write_into(alloc, to, value, &mut Vec::new(alloc), &mut octets)?;
+    Ok(octets)
 }
 
 /// Judges a line over the table of its type.

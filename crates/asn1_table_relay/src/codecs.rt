@@ -11,8 +11,8 @@ ghost use Rattle.asn1_table_tape.specs.Records.{records_of};
 ghost use Rattle.asn1_table_walker.specs.Fronts.{TellsOnto};
 ghost use Rattle.asn1_table_walker.specs.Texts.{EncodedIn, NotEncodedIn};
 
-use crate::oer::{decode_oer, encode_oer};
-use crate::per::{decode_per, encode_per};
+use crate::oer::{decode_oer, encode_oer_in};
+use crate::per::{decode_per, encode_per_in};
 use asn1_relay_core::Codec;
 use asn1_schema_decode::Refusal;
 use asn1_schema_errors::{DecodeError, EncodeError};
@@ -22,6 +22,9 @@ use oer_codec::oer::EncodingRules;
 use per_codec_encoder::EncoderOptions;
 use per_codec_reading::PackedRules;
 use std::alloc::Global;
+
+/// For how many octets there is room before the first one is written.
+pub(crate) const FIRST_CAPACITY: usize = 128;
 
 /// Reads the value of the type at this index of a table with whose encoding in these rules the input begins: the
 /// records of its normal form, and the octets after it.
@@ -56,7 +59,7 @@ pub fn read_front<'input>(
     }
 }
 
-/// The canonical encoding by these rules of the value with these records.
+/// The canonical encoding by these rules of the value with these records, in the capacity of `room`, which is cleared.
 ///
 /// # Errors
 ///
@@ -67,6 +70,7 @@ pub fn write(
     types: &Types,
     to: Codec,
     tape: &[Event],
+    room: Vec<u8>,
 ) -> Result<Vec<u8>, EncodeError>
     ensures ok { IfOk result
         (λ octets. EncodedIn (rules_of to ∷ []) (records_of types.now.nodes.items tape.now) octets.items) }
@@ -75,17 +79,22 @@ pub fn write(
     ensures kinds { IfErr result IsOfValue }
 {
     match to {
-        Codec::Uper => write_unaligned(alloc, types, tape),
-        Codec::Aper => write_aligned(alloc, types, tape),
-        Codec::UperStrict => write_unaligned(alloc, types, tape),
-        Codec::AperStrict => write_aligned(alloc, types, tape),
-        Codec::Oer => write_octets(alloc, types, tape),
-        Codec::Coer => write_octets(alloc, types, tape),
+        Codec::Uper => write_unaligned(alloc, types, tape, room),
+        Codec::Aper => write_aligned(alloc, types, tape, room),
+        Codec::UperStrict => write_unaligned(alloc, types, tape, room),
+        Codec::AperStrict => write_aligned(alloc, types, tape, room),
+        Codec::Oer => write_octets(alloc, types, tape, room),
+        Codec::Coer => write_octets(alloc, types, tape, room),
     }
 }
 
 // UPER, lenient or strict: what is written is the same.
-fn write_unaligned(alloc: Global, types: &Types, tape: &[Event]) -> Result<Vec<u8>, EncodeError>
+fn write_unaligned(
+    alloc: Global,
+    types: &Types,
+    tape: &[Event],
+    room: Vec<u8>,
+) -> Result<Vec<u8>, EncodeError>
     ensures ok { IfOk result
         (λ octets. EncodedIn (uper ∷ []) (records_of types.now.nodes.items tape.now) octets.items) }
     ensures same { IfOk result
@@ -95,14 +104,19 @@ fn write_unaligned(alloc: Global, types: &Types, tape: &[Event]) -> Result<Vec<u
         (NotEncodedIn (uper_strict ∷ []) (records_of types.now.nodes.items tape.now)) }
     ensures kinds { IfErr result IsOfValue }
 {
-    match encode_per(alloc, types, tape, EncoderOptions::unaligned()) {
+    match encode_per_in(alloc, types, tape, EncoderOptions::unaligned(), room) {
         Ok(octets) => Ok(octets),
         Err(error) => Err(error),
     }
 }
 
 // The same of APER.
-fn write_aligned(alloc: Global, types: &Types, tape: &[Event]) -> Result<Vec<u8>, EncodeError>
+fn write_aligned(
+    alloc: Global,
+    types: &Types,
+    tape: &[Event],
+    room: Vec<u8>,
+) -> Result<Vec<u8>, EncodeError>
     ensures ok { IfOk result
         (λ octets. EncodedIn (aper ∷ []) (records_of types.now.nodes.items tape.now) octets.items) }
     ensures same { IfOk result
@@ -112,14 +126,19 @@ fn write_aligned(alloc: Global, types: &Types, tape: &[Event]) -> Result<Vec<u8>
         (NotEncodedIn (aper_strict ∷ []) (records_of types.now.nodes.items tape.now)) }
     ensures kinds { IfErr result IsOfValue }
 {
-    match encode_per(alloc, types, tape, EncoderOptions::aligned()) {
+    match encode_per_in(alloc, types, tape, EncoderOptions::aligned(), room) {
         Ok(octets) => Ok(octets),
         Err(error) => Err(error),
     }
 }
 
 // OER and COER: what is written is the same.
-fn write_octets(alloc: Global, types: &Types, tape: &[Event]) -> Result<Vec<u8>, EncodeError>
+fn write_octets(
+    alloc: Global,
+    types: &Types,
+    tape: &[Event],
+    room: Vec<u8>,
+) -> Result<Vec<u8>, EncodeError>
     ensures ok { IfOk result
         (λ octets. EncodedIn (oer ∷ []) (records_of types.now.nodes.items tape.now) octets.items) }
     ensures same { IfOk result
@@ -129,7 +148,7 @@ fn write_octets(alloc: Global, types: &Types, tape: &[Event]) -> Result<Vec<u8>,
         (NotEncodedIn (coer ∷ []) (records_of types.now.nodes.items tape.now)) }
     ensures kinds { IfErr result IsOfValue }
 {
-    match encode_oer(alloc, types, tape) {
+    match encode_oer_in(alloc, types, tape, room) {
         Ok(octets) => Ok(octets),
         Err(error) => Err(error),
     }

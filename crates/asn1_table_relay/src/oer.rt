@@ -11,6 +11,7 @@ ghost use Rattle.asn1_table_tape.specs.Records.{records_of};
 ghost use Rattle.oer_codec.specs.Messages.{rules_of};
 ghost use Rattle.oer_codec_encoder.specs.Written.{octet_rules};
 
+use crate::codecs::FIRST_CAPACITY;
 use asn1_schema_decode::Refusal;
 use asn1_schema_errors::{DecodeError, EncodeError, refusal, within_limit};
 use asn1_table_tape::{Event, replay};
@@ -18,9 +19,6 @@ use asn1_table_types::Types;
 use asn1_table_walker::read_onto;
 use oer_codec::oer::{Decoder, DecoderOptions, Encoder, EncoderOptions, EncodingRules};
 use std::alloc::Global;
-
-/// For how many octets there is room before the first one is written.
-const FIRST_CAPACITY: usize = 128;
 
 /// Reads the value of the type at this index of a table with whose encoding (X.696) the input begins: the records of
 /// its normal form, and the octets after it.
@@ -73,7 +71,24 @@ pub fn encode_oer(alloc: Global, types: &Types, tape: &[Event]) -> Result<Vec<u8
     ensures only { IfErr result (NotEncodedIn octet_rules (records_of types.now.nodes.items tape.now)) }
     ensures kinds { IfErr result IsOfValue }
 {
-    let mut output = Vec::with_capacity(alloc, FIRST_CAPACITY)?;
+    let room = Vec::with_capacity(alloc, FIRST_CAPACITY)?;
+    encode_oer_in(alloc, types, tape, room)
+}
+
+/// As `encode_oer`, in the capacity of `room`, which is cleared.
+pub(crate) fn encode_oer_in(
+    alloc: Global,
+    types: &Types,
+    tape: &[Event],
+    room: Vec<u8>,
+) -> Result<Vec<u8>, EncodeError>
+    ensures ok { IfOk result
+        (λ octets. EncodedIn octet_rules (records_of types.now.nodes.items tape.now) octets.items) }
+    ensures only { IfErr result (NotEncodedIn octet_rules (records_of types.now.nodes.items tape.now)) }
+    ensures kinds { IfErr result IsOfValue }
+{
+    let mut output = room;
+    output.clear();
     let mut worker = Vec::new(alloc);
     let options = EncoderOptions::coer();
     let mut encoder = Encoder::from_buffer(alloc, options, &mut output, &mut worker);

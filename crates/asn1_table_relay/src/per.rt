@@ -13,6 +13,7 @@ ghost use Rattle.per_codec_encoder.specs.Stepping.{variant_of};
 ghost use Rattle.per_codec_encoder.specs.Written.{packed_rules};
 ghost use Rattle.per_codec_rules.specs.Variants.{is_aligned};
 
+use crate::codecs::FIRST_CAPACITY;
 use asn1_schema_decode::Refusal;
 use asn1_schema_errors::{DecodeError, EncodeError, refusal, within_limit};
 use asn1_table_tape::{Event, replay};
@@ -22,9 +23,6 @@ use per_codec_decoder::{Decoder, DecoderOptions};
 use per_codec_encoder::{Encoder, EncoderOptions};
 use per_codec_reading::PackedRules;
 use std::alloc::Global;
-
-/// For how many octets there is room before the first one is written.
-const FIRST_CAPACITY: usize = 128;
 
 /// Reads the value of the type at this index of a table with whose encoding (X.691) the input begins: the records of
 /// its normal form, and the octets after it.
@@ -87,6 +85,23 @@ pub fn encode_per(
     ensures kinds { IfErr result IsOfValue }
 {
     let room = Vec::with_capacity(alloc, FIRST_CAPACITY)?;
+    encode_per_in(alloc, types, tape, options, room)
+}
+
+/// As `encode_per`, in the capacity of `room`, which is cleared.
+pub(crate) fn encode_per_in(
+    alloc: Global,
+    types: &Types,
+    tape: &[Event],
+    options: EncoderOptions,
+    room: Vec<u8>,
+) -> Result<Vec<u8>, EncodeError>
+    ensures ok { IfOk result (λ octets. EncodedIn (packed_rules (is_aligned (variant_of options)))
+        (records_of types.now.nodes.items tape.now) octets.items) }
+    ensures only { IfErr result (NotEncodedIn (packed_rules (is_aligned (variant_of options)))
+        (records_of types.now.nodes.items tape.now)) }
+    ensures kinds { IfErr result IsOfValue }
+{
     let mut encoder = Encoder::new_with_output(alloc, options, room);
     match replay(&mut encoder, types, tape) {
         Ok(()) => {

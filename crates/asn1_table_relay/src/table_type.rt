@@ -5,13 +5,14 @@ ghost use Rattle.asn1_table_nodes.specs.Meaning.{type_at};
 ghost use Rattle.asn1_table_tape.specs.Records.{records_of};
 ghost use Rattle.asn1_table_relay.specs.Tapes.{StandsFor};
 
-use crate::codecs::{read_front, write};
+use crate::codecs::{FIRST_CAPACITY, read_front, write};
 use asn1_relay_core::{Codec, MessageSchema, MessageType};
 use asn1_schema_decode::Refusal;
 use asn1_schema_errors::EncodeError;
 use asn1_table_tape::Event;
 use asn1_table_types::Types;
 use std::alloc::Global;
+use std::mem;
 
 /// The messages of a type of a table. An index outside the table is that of a type without values.
 #[derive(Drop)]
@@ -42,10 +43,26 @@ impl<'a> MessageType for TableType<'a> {
     }
 
     fn write(&self, alloc: Global, to: Codec, tape: &Vec<Event>) -> Result<Vec<u8>, EncodeError> {
-        match write(alloc, self.types, to, tape.as_slice()) {
+        let room = Vec::with_capacity(alloc, FIRST_CAPACITY)?;
+        match write(alloc, self.types, to, tape.as_slice(), room) {
             Ok(octets) => Ok(octets),
             Err(error) => Err(error),
         }
+    }
+
+    fn write_into(
+        &self,
+        alloc: Global,
+        to: Codec,
+        tape: &Vec<Event>,
+        room: &mut Vec<u8>,
+        out: &mut Vec<u8>,
+    ) -> Result<(), EncodeError> {
+        let cleared = mem::replace(room, Vec::new(alloc));
+        let octets = write(alloc, self.types, to, tape.as_slice(), cleared)?;
+        out.extend_from_slice(octets.as_slice())?;
+        *room = octets;
+        Ok(())
     }
 
     ghost lawful = { λ t. t.types.now.lawful 128 t.place };

@@ -3,7 +3,7 @@ use crate::full::memory::take_all_but;
 use asn1_relay_core::Codec;
 use asn1_relay_trials::{
     Appends, Decodes, Encodes, EncodesInto, Feeds, Inserts, Nexts, Outcome, ReadsFields, Recodes,
-    Routes, Runs, Trial, WritesFields, WritesIdentifier, is_ample,
+    RecodesInto, Routes, Runs, Trial, WritesFields, WritesIdentifier, is_ample,
 };
 use oer_codec::CoerFront;
 use per_codec::UperFront;
@@ -84,6 +84,12 @@ fn decode(rt: HostRuntime) {
 fn recode(rt: HostRuntime) {
     assert!(rt; is_right::<Recodes>(rt.alloc(), Codec::Uper));
     assert!(rt; is_right::<Recodes>(rt.alloc(), Codec::Coer));
+}
+
+#[test]
+fn recode_into(rt: HostRuntime) {
+    assert!(rt; is_right::<RecodesInto>(rt.alloc(), Codec::Uper));
+    assert!(rt; is_right::<RecodesInto>(rt.alloc(), Codec::Coer));
 }
 
 #[test]

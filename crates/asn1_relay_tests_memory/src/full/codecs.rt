@@ -1,7 +1,9 @@
 //! Calls of codecs and relays that take no memory, and the test of all such calls.
 use crate::full::memory::{is_taken, take_memory};
 use crate::full::values::wrong_values;
-use asn1_relay_core::{Codec, DecodeError, EncodeError, Relay, RelayFault, RelayFaultKind};
+use asn1_relay_core::{
+    Codec, DecodeError, EncodeError, Relay, RelayFault, RelayFaultKind, recode_into,
+};
 use asn1_relay_types::Small;
 use asn1_schema::records::{Item, RecordDecoder, RecordEncoder};
 use asn1_schema::{CodecKind, Decoder, Encoder, Identifier, Tag};
@@ -82,25 +84,50 @@ fn is_stopped(relay: &Relay<Small>) -> bool {
     relay.has_failed() && relay.finish() == at_first(RelayFaultKind::AlreadyFailed)
 }
 
+/// Whether numbers are translated into vectors that have capacity for them, after an octet, and one that is too large
+/// adds nothing.
+fn are_translated(alloc: Global, room: &mut Vec<u8>, out: &mut Vec<u8>) -> bool {
+    recode_into::<Small>(alloc, Codec::Coer, Codec::Uper, &[0x03], room, out) == Ok(())
+        && recode_into::<Small>(alloc, Codec::Uper, Codec::Coer, &[0x80], room, out) == Ok(())
+        && recode_into::<Small>(alloc, Codec::Uper, Codec::Coer, &[0xF0], room, out).is_err()
+        && out.as_slice() == [0xAA, 0x80, 0x03]
+}
+
 /// What the calls are made on. It was created before memory was taken.
 #[derive(Drop)]
 struct Prepared {
     records: Vec<Item>,
     relay: Relay<Small>,
+    room: Vec<u8>,
+    out: Vec<u8>,
 }
 
 /// Creates it, with a relay that waits.
 fn prepare(alloc: Global) -> Result<Prepared, EncodeError> {
     let records = records(alloc)?;
     let mut relay = Relay::new(alloc, Codec::Coer, Codec::Uper, 1);
+    let room = Vec::with_capacity(alloc, 8)?;
+    let mut out = Vec::with_capacity(alloc, 8)?;
+    out.push(0xAA)?;
     match relay.feed(&[0x06], &mut Vec::new(alloc)) {
-        Ok(()) => Ok(Prepared { records, relay }),
+        Ok(()) => Ok(Prepared {
+            records,
+            relay,
+            room,
+            out,
+        }),
         Err(_) => Err(EncodeError::OutOfMemory),
     }
 }
 
 /// The first group of calls of codecs and relays that is not right, if there is one.
 fn wrong_calls(alloc: Global, prepared: Prepared) -> Option<&'static str> {
+    let Prepared {
+        records,
+        relay,
+        mut room,
+        mut out,
+    } = prepared;
     let found = [
         ("oer", are_octets_found(alloc, oer::DecoderOptions::oer())),
         ("coer", are_octets_found(alloc, oer::DecoderOptions::coer())),
@@ -111,8 +138,9 @@ fn wrong_calls(alloc: Global, prepared: Prepared) -> Option<&'static str> {
         ("aper", is_bit_found(alloc, uper::DecoderOptions::aligned())),
         ("options", are_options()),
         ("a new relay", is_new_idle(alloc)),
-        ("a waiting relay", is_waiting(&prepared.relay)),
-        ("records", are_records_found(prepared.records)),
+        ("a waiting relay", is_waiting(&relay)),
+        ("recode_into", are_translated(alloc, &mut room, &mut out)),
+        ("records", are_records_found(records)),
     ];
     for (name, is_right) in found {
         if !is_right {

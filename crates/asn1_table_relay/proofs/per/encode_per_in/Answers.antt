@@ -4,7 +4,7 @@ use Rattle.per_codec_encoder.specs.Stepping.{variant_of}
 use Rattle.per_codec_encoder.specs.Written.{packed_rules}
 use Rattle.per_codec_rules.specs.Variants.{is_aligned}
 use Rattle.per_codec.proofs.Encoding.{written_all, refused_all}
-use Rattle.asn1_table_relay.proofs.per.encode_per.Goals as goal
+use Rattle.asn1_table_relay.proofs.per.encode_per_in.Goals as goal
 
 pub returns-in-Err-clause-only : goal.returns-in-Err-clause-only
 returns-in-Err-clause-only c = record {

@@ -4,7 +4,7 @@ use Rattle.asn1_schema_encode.proofs.Written.{encoded, not_encoded}
 use Rattle.oer_codec_encoder.specs.Written.{octet_rules}
 use Rattle.oer_codec.proofs.Encoding.{not_failed, written_all, refused_all}
 use Rattle.asn1_table_walker.proofs.Told.{writes_records, cannot_write_records, encoded_all, not_encoded_all}
-use Rattle.asn1_table_relay.proofs.oer.encode_oer.Goals as goal
+use Rattle.asn1_table_relay.proofs.oer.encode_oer_in.Goals as goal
 
 pub returns-clause-only : goal.returns-clause-only
 returns-clause-only c = record {
