@@ -1,6 +1,6 @@
 -- What was read and written is the result for a message.
 use Rattle.std.proofs.Common.{◌≡◌, ◌≢◌, ◌≤◌, ◌⊎◌, inl, inr, ℕ, ◌==◌, true, false, length, List, [], ◌∷◌, ◌++◌, Option}
-use Rattle.std.proofs.Common.{Some, None, option_and_then, Result, Ok, Err, Vec, Global, IfSome, refl, sym, ◌∙◌, ap}
+use Rattle.std.proofs.Common.{Some, None, option_and_then, IfSome, refl, sym, ◌∙◌, ap}
 use Rattle.std.proofs.Common.{subst, arith}
 use Rattle.std.proofs.lemmas.Bool.{eqb-true}
 use Rattle.std.proofs.lemmas.List.{append-nil}
@@ -17,7 +17,7 @@ use Rattle.asn1_schema_laws.specs.Tables.{IsValue}
 use Rattle.asn1_schema_decode.specs.Messages.{HasMessage, Tells, NoMessage}
 use Rattle.asn1_relay_core.specs.declared.codec.Codec.{Codec}
 use Rattle.asn1_relay_core.specs.declared.translation.RecodeFault.{RecodeFault}
-use Rattle.asn1_relay_core.specs.declared.translation.RecodeFault.TheVariants.{NotAnEncoding, Surplus, NoTarget, Memory}
+use Rattle.asn1_relay_core.specs.declared.translation.RecodeFault.TheVariants.{Surplus}
 use Rattle.asn1_relay_core.specs.Coding.{rules_of, IsWritten, NotWritten}
 use Rattle.asn1_relay_core.specs.Recoding.{IsMessage, Answer, answered, not_an_encoding, surplus, no_target, IsAnswer}
 use Rattle.asn1_relay_core.specs.Recoding.{NamesMemoryAlone, NamesNoEarlierRefusal, NamesNoMisplacedCall}

@@ -1,10 +1,11 @@
-use Rattle.std.proofs.Common.{◌≡◌, ◌∙◌, [], take, refl, ap, subst, arith}
+use Rattle.std.proofs.Common.{◌≡◌, ◌∙◌, [], take, refl, ap, subst, arith, inr, false, true}
 use Rattle.std.specs.Io.KnownBytes.{Consumes}
 use Rattle.std.proofs.lemmas.List.{length-take}
 use Rattle.asn1_schema_laws.proofs.Joined.{raised}
 use Rattle.asn1_relay_core.specs.Running.{BlockFaultOf, RelaysBlock, RunFaultOf, ends}
 use Rattle.asn1_relay_core.specs.Coding.{rules_of}
-use Rattle.asn1_relay_core.proofs.Blocks.{run_begun, run_further, run_block_failed, run_not_flushed}
+use Rattle.asn1_relay_core.specs.Relaying.{Relaying}
+use Rattle.asn1_relay_core.proofs.Blocks.{run_begun, run_further, run_block_failed, run_left_unread, run_not_flushed}
 use Rattle.asn1_relay_core.proofs.running.run_of.Goals as goal
 
 pub loop-count-init : goal.loop-count-init
@@ -63,3 +64,16 @@ returns-clause-only g c =
     run_not_flushed c.args.from c.args.to (g.M.MessageSchema.schema c.args.message_type 128) c.args.limit old now c.loop-count.relay.relaying
     c.loop-count.invariant.so_far next none (c.in-Ok-eq0.ensures.octets.1 z (omega arith)) c.in-Ok-eq0.ensures.counts c.flush.ensures.keeps
     c.in-Err-flush.ensures.counts
+
+pub returns-in-Err-finish-clause-only : goal.returns-in-Err-finish-clause-only
+returns-in-Err-finish-clause-only g c =
+    let old = ends (g.R.Source.coming c.args.reader.now) (g.W.Sink.taken c.args.writer.now) (g.R.Source.failures c.args.reader.now) (g.W.Sink.failures c.args.writer.now) in
+    let now = ends (g.R.Source.coming c.loop-count.reader) (g.W.Sink.taken c.loop-count.writer) (g.R.Source.failures c.loop-count.reader) (g.W.Sink.failures c.loop-count.writer) in
+    let next = ends (g.R.Source.coming c.read.new.self) (g.W.Sink.taken c.loop-count.writer) (g.R.Source.failures c.read.new.self) (g.W.Sink.failures c.loop-count.writer) in
+    let z : c.in-Ok-eq0.field-0 ≡ 0 = omega arith in
+    let none : Consumes (g.R.Source.coming c.loop-count.reader) (g.R.Source.coming c.read.new.self) [] =
+    subst (λ n. Consumes (g.R.Source.coming c.loop-count.reader) (g.R.Source.coming c.read.new.self) (take n c.read.new.room)) z c.in-Ok-eq0.ensures.octets.0 in
+    let had = ap (λ (r : Relaying). r.failed) c.loop-count.invariant.so_far.is in
+    inr (run_left_unread c.args.from c.args.to (g.M.MessageSchema.schema c.args.message_type 128) c.args.limit old now c.loop-count.relay.relaying
+    c.loop-count.invariant.so_far next none (c.in-Ok-eq0.ensures.octets.1 z (omega arith)) c.in-Ok-eq0.ensures.counts c.in-Err-finish.fault refl refl
+    (λ u. let q : false ≡ true = c.in-Err-finish.ensures.end.1 (had, u) in cc) c.in-Err-finish.ensures.only)

@@ -27,7 +27,7 @@ returns-clause-right g c =
     let valued = g.met.M.MessageType.valued c.args.message_type.now c.in_ok-value.value told.value told.means in
     let added = c.in_ok-write_into.ensures.ok in (
       added.0,
-      added.1.1,
+      added.2,
       right_answered c.args.from c.args.to schema c.args.input.now told.value [] told.tells refl valued added.0
-          (added.1.0.written told.value told.means),
+          (added.1.written told.value told.means),
     )

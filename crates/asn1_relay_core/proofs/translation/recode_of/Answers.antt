@@ -1,7 +1,7 @@
-use Rattle.std.proofs.Common.{refl, subst, sym, [], ◌⊎◌, ◌≡◌, None, Some, IfSome}
+use Rattle.std.proofs.Common.{refl, subst, sym, [], IfSome}
 use Rattle.std.proofs.lemmas.Result.{err_from_is_err_and}
 use Rattle.asn1_relay_core.specs.Coding.{rules_of}
-use Rattle.asn1_relay_core.specs.Recoding.{Answer, IsAnswer, refusal_of}
+use Rattle.asn1_relay_core.specs.Recoding.{IsAnswer, refusal_of}
 use Rattle.asn1_relay_core.proofs.Coded.{right_answered, right_not_written, only_one}
 use Rattle.asn1_relay_core.proofs.translation.recode_of.Goals as goal
 

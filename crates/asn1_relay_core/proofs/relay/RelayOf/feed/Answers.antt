@@ -4,6 +4,8 @@ use Rattle.asn1_laws_across.specs.Relayed.{Stop, StopsAt}
 use Rattle.asn1_relay_core.specs.Coding.{rules_of}
 use Rattle.asn1_relay_core.specs.declared.fault.RelayFaultKind.TheVariants as kind
 use Rattle.asn1_relay_core.specs.declared.codec.Codec.{Codec}
+use Rattle.asn1_relay_core.specs.declared.fault.RelayFault.{RelayFault}
+use Rattle.asn1_relay_core.specs.declared.fault.RelayFaultKind.{RelayFaultKind}
 use Rattle.asn1_relay_core.specs.Relaying.{Relaying, kind_of_stop, onwards}
 use Rattle.asn1_relay_core.specs.Attempts.{Awaits, RelaysOne}
 use Rattle.asn1_relay_core.proofs.Feeding.{SoFar, one_more, stopped, grown_alike, nothing_fed, waited, awaits_on}
@@ -69,6 +71,9 @@ loop-self-preserved g c =
       same,
     )
 
+abbrev fault_at : ℕ → RelayFaultKind → RelayFault
+fault_at n k = record { number = n; kind = k }
+
 pub returns-in-Stops-clause-only : goal.returns-in-Stops-clause-only
 returns-in-Stops-clause-only g c =
     let old = c.args.self.now in
@@ -81,10 +86,13 @@ returns-in-Stops-clause-only g c =
     subst (Cause way.from way.to c.self-in-loop-self.inside.message_type way.limit) c.as_slice.ensures c.in-Stops.ensures.1 in
     let there = subst (λ r. Cause r.relaying.from r.relaying.to r.message_type r.relaying.limit r.relaying.unread) c.self-in-loop-self.view_is cause in
     let now = c.loop-self.self.relaying in
+    let view = ap (λ r. r.relaying) c.self-in-loop-self.view_is in
+    let stops = ap (λ r. r.relaying) c.stop-in-Stops.ensures.stops ∙ ap (λ (r : Relaying). onwards r r.unread r.number true) view in
+    let fault = c.stop-in-Stops.ensures.fault ∙ ap (λ (r : Relaying). fault_at r.number c.in-Stops.kind) view in
     let here : Cause now.from now.to old.message_type now.limit now.unread = subst (λ t. Cause now.from now.to t now.limit now.unread) c.loop-self.invariant.2 there in
     stopped s old.relaying c.args.piece.now c.args.out.now.items now c.relay_front.new.out.items
     (grown_alike s old.relaying c.args.piece.now c.args.out.now.items now c.loop-self.out.items c.relay_front.new.out.items
-    c.loop-self.invariant.1 c.in-Stops.ensures.0) _ _ c.in-Stops.kind (ap (λ r. r.relaying) c.stop-in-Stops.ensures.stops) c.stop-in-Stops.ensures.fault
+    c.loop-self.invariant.1 c.in-Stops.ensures.0) _ _ c.in-Stops.kind stops fault
     c.loop-self.invariant.0 here
 
 pub returns-then-is_empty-2-clause-ok : goal.returns-then-is_empty-2-clause-ok
