@@ -1,11 +1,8 @@
 //! Fields of information object classes (X.681).
 use crate::errors::{NotationError, Problem};
 use crate::instances::{Given, given_for};
-use crate::scopes::{Files, Scope, Symbol, TypeUse};
+use crate::scopes::{Files, MOST_STEPS, Scope, Symbol, TypeUse};
 use asn1_notation_tree::{AssignmentKind, ClassField, Name, Reference, TypeKind};
-
-/// How many references are followed from the name of a class to its fields.
-const MOST_STEPS: usize = 64;
 
 /// The class that a reference in a module stands for (X.681 9.2, X.683 8.4), if it stands for one.
 ///
@@ -59,7 +56,7 @@ pub fn type_of_field(
     class: &Reference,
     names: &[Name],
 ) -> Result<Option<TypeUse>, NotationError> {
-    if is_built_in(class) {
+    if class.is_built_in_class() {
         return match names {
             [name] if name.text.as_str() == "&Type" => Ok(None),
             _ => Err(scope.error(class.name.place, Problem::UnsupportedType)),
@@ -101,12 +98,6 @@ fn no_class(files: &Files<'_, '_>, scope: Scope, reference: &Reference) -> Probl
         }
         _ => Problem::UnknownClass,
     }
-}
-
-/// Whether a class is one of those that each module has (X.681 annexes A and B).
-pub(crate) fn is_built_in(class: &Reference) -> bool {
-    let name = class.name.text.as_str();
-    class.module.is_none() && (name == "TYPE-IDENTIFIER" || name == "ABSTRACT-SYNTAX")
 }
 
 /// The reference that stands in the place of a type, which may be one to a class.

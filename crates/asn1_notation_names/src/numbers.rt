@@ -1,17 +1,13 @@
-//! Numbers and items, by themselves or by name.
+//! Numbers, by themselves or by name.
 ghost use Rattle.std.specs.Prelude.{◌≡◌};
 
 use crate::errors::{NotationError, Problem};
 use crate::instances::{Given, given_for};
-use crate::items::Numbers;
 use crate::references::defined_type;
-use crate::scopes::{Files, Scope, Symbol, TypeUse};
+use crate::scopes::{Files, MOST_STEPS, Scope, Symbol, TypeUse};
 use asn1_notation_tree::{
     AssignmentKind, Name, NamedNumber, Reference, TypeKind, ValueIndex, ValueKind,
 };
-
-/// How many references are followed from a value to its notation.
-const MOST_STEPS: usize = 64;
 
 /// A value, and the module in which it is written.
 #[derive(Clone, Copy, PartialEq, Eq, PartialOrd, Ord)]
@@ -176,7 +172,11 @@ fn is_string_of_digits(value: &ValueKind) -> bool {
 }
 
 /// The value that a reference stands for (X.680 17.5).
-fn next_of(
+///
+/// # Errors
+///
+/// `Parameterised` at a reference with actual parameters. Those of `value_named`.
+pub fn next_of(
     files: &Files<'_, '_>,
     scope: Scope,
     reference: &Reference,
@@ -272,30 +272,6 @@ pub fn integer_of(
                 return Err(value.error(files, Problem::ValueOfOtherType));
             }
         }
-    }
-    Err(value.error(files, Problem::Circular))
-}
-
-/// The number of an item of an ENUMERATED, by its name or by that of a value (X.680 20.8).
-///
-/// # Errors
-///
-/// Those of `settled`, and `ValueOfOtherType` at the value if it is no item.
-pub fn item_of(
-    files: &Files<'_, '_>,
-    items: &Numbers<'_>,
-    value: ValueUse,
-) -> Result<isize, NotationError> {
-    let mut at = value;
-    for _ in 0..MOST_STEPS {
-        let ValueKind::Reference(reference) = &files.value_term(at.scope, at.index)?.kind else {
-            settled(files, at)?;
-            return Err(value.error(files, Problem::ValueOfOtherType));
-        };
-        if let Some(number) = items.find(reference.name.text.as_str()) {
-            return Ok(number);
-        }
-        at = next_of(files, at.scope, reference)?;
     }
     Err(value.error(files, Problem::Circular))
 }

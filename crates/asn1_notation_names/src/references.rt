@@ -1,15 +1,12 @@
 //! What references to types stand for (X.680 14.1, X.683 9).
-use crate::classes::{class_named, is_built_in};
+use crate::classes::class_named;
 use crate::errors::{NotationError, Problem};
 use crate::instances::{Given, Key, given_for, instance_with, value_key};
 use crate::numbers::{ValueUse, check_governor, governed};
-use crate::scopes::{Files, Scope, Symbol, TypeUse};
+use crate::scopes::{Files, MOST_STEPS, Scope, Symbol, TypeUse};
 use asn1_notation_tree::{
     ActualParameter, AssignmentKind, Parameter, Reference, TypeKind, ValueKind,
 };
-
-/// How many references are followed from an actual parameter to its kind.
-const MOST_STEPS: usize = 64;
 
 /// The type that a reference stands for, and its assignment if it has one. Actual parameters are followed in this many
 /// levels.
@@ -176,7 +173,7 @@ fn has_class(
         return Ok(false);
     };
     match &files.type_term(TypeUse { scope, index })?.kind {
-        TypeKind::Reference(reference) if is_built_in(reference) => Ok(true),
+        TypeKind::Reference(reference) if reference.is_built_in_class() => Ok(true),
         TypeKind::Reference(reference) if is_parameter(parameters, reference) => {
             Ok(is_class_given(parameters, given, reference))
         }

@@ -26,6 +26,9 @@ pub struct Scope {
     pub instance: Option<usize>,
 }
 
+/// How many references and tags are followed from a type, value, class or actual parameter to what it is.
+pub const MOST_STEPS: usize = 64;
+
 /// Through how many modules a name is followed.
 const MOST_MODULES: usize = 64;
 

@@ -2,7 +2,7 @@
 ghost use Rattle.std.specs.Prelude.{◌≡◌};
 
 use asn1_notation_names::{
-    Files, NotationError, Problem, Scope, Symbol, TypeUse, referenced, type_of_field,
+    Files, MOST_STEPS, NotationError, Problem, Scope, Symbol, TypeUse, referenced, type_of_field,
 };
 use asn1_notation_tree::{
     Addition, AssignmentKind, Component, Components, ConstraintIndex, Name, Tagging, TaggingMode,
@@ -10,9 +10,6 @@ use asn1_notation_tree::{
 };
 use std::alloc::Global;
 use std::slice;
-
-/// How many references and tags are followed from a type to its kind.
-const MOST_STEPS: usize = 64;
 
 /// In how many levels actual parameters are followed.
 const MOST_LEVELS: u32 = 64;

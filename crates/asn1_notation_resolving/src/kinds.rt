@@ -1,8 +1,7 @@
 //! Which constraints types of a kind may have (X.680 51.1).
 use crate::bases::{Base, ConstraintUse};
-use asn1_notation_names::{
-    Files, NotationError, Numbers, Problem, Scope, ValueUse, item_of, may_be, numbers_of, settled,
-};
+use crate::items::{Numbers, item_of, numbers_of};
+use asn1_notation_names::{Files, NotationError, Problem, Scope, ValueUse, may_be, settled};
 use asn1_notation_tree::{
     ConstraintKind, ConstraintTerm, TypeKind, UnseenConstraint, ValueIndex, ValueKind,
 };

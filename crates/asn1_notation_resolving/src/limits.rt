@@ -4,6 +4,7 @@ use crate::sets::{Aspect, check_values, has_number, visible};
 use asn1_notation_constraints::{BoundsError, size_limits};
 use asn1_notation_intervals::{Interval, NumberSet};
 use asn1_notation_names::{Files, NotationError, Problem};
+use asn1_notation_tree::StringName;
 use asn1_schema_constraints::{Bounded, Sizes};
 use asn1_table_types::{CharacterTable, NumberLimits, StringKind};
 use std::alloc::{AllocError, Global};
@@ -66,6 +67,27 @@ pub fn sizes(
         });
     };
     size_limits(alloc, &visible).map_err(|error| bounds_error(base, error))
+}
+
+/// The kind of a character string (X.680 41), if tables hold it.
+pub fn string_kind(name: StringName) -> Option<StringKind> {
+    match name {
+        StringName::Bmp => Some(StringKind::Bmp),
+        StringName::General => Some(StringKind::General),
+        StringName::Graphic => Some(StringKind::Graphic),
+        StringName::Ia5 => Some(StringKind::Ia5),
+        StringName::Numeric => Some(StringKind::Numeric),
+        StringName::Printable => Some(StringKind::Printable),
+        StringName::Teletex => Some(StringKind::Teletex),
+        StringName::Utf8 => Some(StringKind::Utf8),
+        StringName::Visible => Some(StringKind::Visible),
+        StringName::Universal | StringName::Videotex => None,
+    }
+}
+
+/// Whether a kind is a known-multiplier type, whose characters take the same number of bits each (X.691 3.7.16).
+pub fn has_known_multiplier(kind: StringKind) -> bool {
+    characters_of(kind).is_some()
 }
 
 /// The characters of a kind of string as intervals, if its permitted alphabet counts in PER (X.691 30.1).

@@ -2,27 +2,22 @@
 use crate::types::read_type;
 use asn1_notation_parsing::{MAXIMUM_DEPTH, Parsed, Parser};
 use asn1_notation_tokens::{ItemKind, Symbol, Word};
-use asn1_notation_tree::{ClassField, Expected, Name, Reference, TypeIndex, TypeKind, TypeTerm};
-
-/// Whether a name is that of a class that each module has (X.681 annexes A and B).
-fn is_built_in(name: &[u8]) -> bool {
-    matches!(name, b"TYPE-IDENTIFIER" | b"ABSTRACT-SYNTAX")
-}
+use asn1_notation_tree::{
+    ClassField, Expected, Name, Reference, TypeIndex, TypeKind, TypeTerm, is_built_in_class,
+};
 
 /// Whether fields of a class are the one that identifies the objects of a class that each module has, an OBJECT
 /// IDENTIFIER.
 pub fn is_identifier_field(class: &Reference, fields: &[Name]) -> bool {
     match fields {
-        [field] if class.module.is_none() && is_built_in(class.name.text.as_bytes()) => {
-            field.text.as_str() == "&id"
-        }
+        [field] if class.is_built_in_class() => field.text.as_str() == "&id",
         _ => false,
     }
 }
 
 /// Whether the next item is the name of a class that each module has, and no field follows it.
 pub fn see_built_in(parser: &Parser<'_>) -> bool {
-    is_built_in(parser.octets()) && parser.peek_after(1) != ItemKind::Symbol(Symbol::Dot)
+    is_built_in_class(parser.octets()) && parser.peek_after(1) != ItemKind::Symbol(Symbol::Dot)
 }
 
 /// The fields of a class that each module has, whose name is the next item: `&id` and `&Type`.

@@ -11,5 +11,5 @@ pub use tree::{
     Element, Enumeration, EnumerationItem, Exports, Import, Limit, ListElement, Module, Name,
     NamedNumber, Parameter, Presence, PresenceConstraint, RangeEnd, Reference, StringName, Syntax,
     TagClass, TagDefault, Tagging, TaggingMode, TypeIndex, TypeKind, TypeTerm, UnseenConstraint,
-    UnsupportedType, ValueIndex, ValueKind, ValueTerm,
+    UnsupportedType, ValueIndex, ValueKind, ValueTerm, is_built_in_class,
 };

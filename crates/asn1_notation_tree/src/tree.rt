@@ -405,6 +405,18 @@ pub struct Reference {
     pub parameters: Vec<ActualParameter>,
 }
 
+impl Reference {
+    /// Whether it is to a class that each module has (X.681 annexes A and B).
+    pub fn is_built_in_class(&self) -> bool {
+        self.module.is_none() && is_built_in_class(self.name.text.as_bytes())
+    }
+}
+
+/// Whether a name is that of a class that each module has (X.681 annexes A and B).
+pub fn is_built_in_class(name: &[u8]) -> bool {
+    matches!(name, b"TYPE-IDENTIFIER" | b"ABSTRACT-SYNTAX")
+}
+
 /// What is given for a parameter (X.683 9.5).
 #[derive(Drop)]
 pub enum ActualParameter {

@@ -8,7 +8,8 @@ use asn1_notation_components::{
 };
 use asn1_notation_resolving::{
     Base, Files, NameSet, NotationError, Numbered, Problem, Scope, Symbol, TypeUse, ValueUse,
-    alphabet, base_of, check_kinds, number_limits, number_of, numbers_of, sizes, tagged_base,
+    alphabet, base_of, check_kinds, has_known_multiplier, number_limits, number_of, numbers_of,
+    sizes, string_kind, tagged_base,
 };
 use asn1_notation_tree::{
     Components, Element, Enumeration, NamedNumber, Presence as WrittenPresence, StringName,
@@ -564,30 +565,6 @@ fn any_string(kind: StringKind) -> TypeNode {
         sizes: ANY_SIZE,
         alphabet: None,
     })
-}
-
-/// The kind of a character string (X.680 41), if tables hold it.
-pub(crate) fn string_kind(name: StringName) -> Option<StringKind> {
-    match name {
-        StringName::Bmp => Some(StringKind::Bmp),
-        StringName::General => Some(StringKind::General),
-        StringName::Graphic => Some(StringKind::Graphic),
-        StringName::Ia5 => Some(StringKind::Ia5),
-        StringName::Numeric => Some(StringKind::Numeric),
-        StringName::Printable => Some(StringKind::Printable),
-        StringName::Teletex => Some(StringKind::Teletex),
-        StringName::Utf8 => Some(StringKind::Utf8),
-        StringName::Visible => Some(StringKind::Visible),
-        StringName::Universal | StringName::Videotex => None,
-    }
-}
-
-/// Whether a kind is a known-multiplier type, whose characters take the same number of bits each (X.691 3.7.16).
-pub(crate) fn has_known_multiplier(kind: StringKind) -> bool {
-    !matches!(
-        kind,
-        StringKind::General | StringKind::Graphic | StringKind::Teletex | StringKind::Utf8
-    )
 }
 
 /// The tag of a component of a SEQUENCE by its position. Neither PER nor OER encodes these tags, which may be equal

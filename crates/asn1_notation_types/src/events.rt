@@ -2,10 +2,9 @@
 ghost use Rattle.std.specs.Prelude.{◌≡◌, false, IfSome};
 ghost use Rattle.asn1_schema_constraints.specs.declared.bounds.Bounded.TheVariants.{Single};
 
-use crate::building::{has_known_multiplier, string_kind};
 use asn1_notation_resolving::{
-    Base, Files, NotationError, Problem, ValueUse, arcs_of, characters_of, integer_of, item_of,
-    number_limits, numbers_of, permits, settled, sizes,
+    Base, Files, NotationError, Problem, ValueUse, arcs_of, characters_of, has_known_multiplier,
+    integer_of, item_of, number_limits, numbers_of, permits, settled, sizes, string_kind,
 };
 use asn1_notation_tree::{Enumeration, ListElement, NamedNumber, StringName, TypeKind, ValueKind};
 use asn1_schema_constraints::{Bounded, Sizes};

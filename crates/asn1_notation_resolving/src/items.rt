@@ -1,10 +1,10 @@
 //! The items of an ENUMERATED, and their numbers (X.680 20).
-use crate::distinct::NameSet;
-use crate::errors::{NotationError, Problem};
-use crate::numbers::{ValueUse, number_of};
-use crate::scopes::{Files, Scope};
+use asn1_notation_names::{
+    Files, MOST_STEPS, NameSet, NotationError, Problem, Scope, ValueUse, next_of, number_of,
+    settled,
+};
 use asn1_notation_rules::{ItemError, ItemFlaw, added_numbers, root_numbers};
-use asn1_notation_tree::{Enumeration, EnumerationItem, Name};
+use asn1_notation_tree::{Enumeration, EnumerationItem, Name, ValueKind};
 use std::alloc::Global;
 
 /// An item with its number.
@@ -137,4 +137,28 @@ pub fn numbers_of<'a>(
     let mut root = joined(alloc, root, taken.as_slice())?;
     root.sort_by_key(|item| item.number)?;
     Ok(Numbers { root, additions })
+}
+
+/// The number of an item of an ENUMERATED, by its name or by that of a value (X.680 20.8).
+///
+/// # Errors
+///
+/// Those of `settled`, and `ValueOfOtherType` at the value if it is no item.
+pub fn item_of(
+    files: &Files<'_, '_>,
+    items: &Numbers<'_>,
+    value: ValueUse,
+) -> Result<isize, NotationError> {
+    let mut at = value;
+    for _ in 0..MOST_STEPS {
+        let ValueKind::Reference(reference) = &files.value_term(at.scope, at.index)?.kind else {
+            settled(files, at)?;
+            return Err(value.error(files, Problem::ValueOfOtherType));
+        };
+        if let Some(number) = items.find(reference.name.text.as_str()) {
+            return Ok(number);
+        }
+        at = next_of(files, at.scope, reference)?;
+    }
+    Err(value.error(files, Problem::Circular))
 }
