@@ -1,5 +1,5 @@
 -- Two unfoldings of a type of a table agree as far as both go.
-use Rattle.std.proofs.Common.{◌≡◌, ℕ, zero, suc, ◌≤◌, inl, inr, List, [], ◌∷◌, Option, Some, None, slice_get, refl, arith}
+use Rattle.std.proofs.Common.{ℕ, zero, suc, ◌≤◌, inl, inr, List, [], ◌∷◌, Option, Some, None, slice_get, refl, arith}
 use Rattle.asn1_model.specs.Schema.{Schema}
 use Rattle.asn1_laws_values.specs.Unfolding.{AgreesTo, AgreesEach, AgreesAlternatives}
 use Rattle.asn1_schema_types.specs.Versions.{Unfolds}

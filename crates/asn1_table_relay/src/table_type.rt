@@ -59,10 +59,14 @@ impl<'a> MessageType for TableType<'a> {
         out: &mut Vec<u8>,
     ) -> Result<(), EncodeError> {
         let cleared = mem::replace(room, Vec::new(alloc));
-        let octets = write(alloc, self.types, to, tape.as_slice(), cleared)?;
-        out.extend_from_slice(octets.as_slice())?;
-        *room = octets;
-        Ok(())
+        match write(alloc, self.types, to, tape.as_slice(), cleared) {
+            Ok(octets) => {
+                out.extend_from_slice(octets.as_slice())?;
+                *room = octets;
+                Ok(())
+            }
+            Err(error) => Err(error),
+        }
     }
 
     ghost lawful = { λ t. t.types.now.lawful 128 t.place };

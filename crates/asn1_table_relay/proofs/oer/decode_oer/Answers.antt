@@ -1,4 +1,4 @@
-use Rattle.std.proofs.Common.{Err, ℕ, ◌^◌, ◌-◌, [], length, ap, ◌∙◌, arith}
+use Rattle.std.proofs.Common.{Err, ℕ, ◌^◌, ◌-◌, length, ap, ◌∙◌, arith}
 use Rattle.std.proofs.lemmas.List.{length-take}
 use Rattle.asn1_model.specs.Schema.{Schema}
 use Rattle.asn1_table_nodes.specs.Meaning.{type_at}
