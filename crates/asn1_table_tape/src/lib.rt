@@ -13,7 +13,8 @@ mod terms;
 pub use noted::{is_default, is_empty_group};
 pub use replaying::replay;
 pub use scalars::{
-    read_arcs, read_bits, read_flag, read_in_form, read_item, read_nil, read_number, read_octets,
+    read_arcs, read_bits, read_element_in_form, read_flag, read_in_form, read_item, read_nil,
+    read_number, read_octets,
 };
 pub use strings::{CharacterString, read_text};
 pub use tape::{Event, keep, set_count};

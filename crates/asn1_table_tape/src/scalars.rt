@@ -106,6 +106,27 @@ pub fn read_in_form<D: Decoder>(
     ensures going { OnOk result (D.has_failed decoder.new → ⊥) }
     ensures call { DecoderCall D.has_failed (SameLevel D.levels) decoder.old decoder.new result }
 {
+    read_element_in_form(alloc, decoder, form, place, tape)
+}
+
+/// The same, as a part of the loop over the elements of a list.
+#[inline(always)]
+pub fn read_element_in_form<D: Decoder>(
+    alloc: Global,
+    decoder: &mut D,
+    form: &NumberForm,
+    place: usize,
+    tape: &mut Vec<Event>,
+) -> Result<(), DecodeError>
+    ensures ok { OnOk result ((ns : List Node) → bounds_there (slice_get ns place) ≡ Some (form_bounds form.now)
+        → Told D.step (type_of ns (D.levels decoder.old) (slice_get ns place)) decoder.old decoder.new
+        (records_of ns tape.old.items) (records_of ns tape.new.items)) }
+    ensures only { IfErr result
+        (λ x. (ns : List Node) → bounds_there (slice_get ns place) ≡ Some (form_bounds form.now)
+        → NoValue D.step D.too_few (type_of ns (D.levels decoder.old) (slice_get ns place)) decoder.old decoder.new x) }
+    ensures going { OnOk result (D.has_failed decoder.new → ⊥) }
+    ensures call { DecoderCall D.has_failed (SameLevel D.levels) decoder.old decoder.new result }
+{
     let number = decoder.decode_number(alloc, form)?;
     keep(
         decoder,

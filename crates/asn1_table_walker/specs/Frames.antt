@@ -86,6 +86,11 @@ turn_of ns n Ended = walk.ended
 turn_of ns n (Again f) = walk.again (pending_of ns n f)
 turn_of ns n (Value f i) = walk.value (pending_of ns n f) (type_at ns n i)
 
+-- What reading leaves of a list, whose elements have the type at index i: another element comes first, or none does.
+abbrev pub element_turn : ℕ → ℕ → ℕ → ℕ → Bool → Turn
+element_turn list begins count i true = Value (Members list begins (count + 1)) i
+element_turn list begins count i false = Ended
+
 -- How many levels are entered, and left.
 abbrev pub levels_in : Option Frame → ℕ
 levels_in None = 0

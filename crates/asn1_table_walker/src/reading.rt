@@ -98,7 +98,7 @@ fn turn<D: Decoder>(
     ensures failed { OnErr result (D.has_failed decoder.new) }
     ensures after { result ≡ Err DecodeError.AlreadyFailed → D.has_failed decoder.old }
 {
-    match go_on(decoder, types, frame, tape)? {
+    match go_on(alloc, decoder, types, frame, tape)? {
         Turn::Ended => Ok(None),
         Turn::Again(rest) => Ok(Some(rest)),
         Turn::Value(rest, place) => {
@@ -111,6 +111,7 @@ fn turn<D: Decoder>(
 
 // The next call that a frame asks for.
 fn go_on<D: Decoder>(
+    alloc: Global,
     decoder: &mut D,
     types: &Types,
     frame: Frame,
@@ -134,7 +135,7 @@ fn go_on<D: Decoder>(
             list,
             begins,
             count,
-        } => turn_members(decoder, types, list, begins, count, tape),
+        } => turn_members(alloc, decoder, types, list, begins, count, tape),
         Frame::Root { sequence, next } => turn_root(decoder, types, sequence, next, tape),
         Frame::Noting {
             sequence,

@@ -7,7 +7,7 @@ use Rattle.asn1_schema_forms.specs.Forms.{form_bounds}
 use Rattle.asn1_schema_laws.specs.Records.{whole}
 use Rattle.asn1_schema_laws.proofs.Joined.{raised}
 use Rattle.asn1_table_tape.proofs.FormRecords.{bounded_told, bounded_refused}
-use Rattle.asn1_table_tape.proofs.scalars.read_in_form.Goals as goal
+use Rattle.asn1_table_tape.proofs.scalars.read_element_in_form.Goals as goal
 
 pub returns-in_err-number-clause-only : goal.returns-in_err-number-clause-only
 returns-in_err-number-clause-only g c = raised _ _ _ c.from_residual.ensures.1 (λ ns e. bounded_refused ns
