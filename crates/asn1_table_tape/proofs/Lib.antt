@@ -1,6 +1,5 @@
 pub mod Nodes
 pub mod ScalarRecords
-mod Replays
 mod Shapes
 mod Behind
 mod DefaultLaws

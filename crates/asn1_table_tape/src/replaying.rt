@@ -1,25 +1,29 @@
 //! The records of a tape are given to an encoder.
 #![tactic(auto, using(std::proofs::lemmas::Grind::common_steps))]
 
-ghost use Rattle.std.specs.Prelude.{◌≡◌, Err, IfErr, OnOk, OnErr, slice_get};
+ghost use Rattle.std.specs.Prelude.{◌≡◌, ◌≤◌, Some, Err, IfOk, IfErr, OnOk, OnErr, length, slice_get};
 ghost use Rattle.asn1_schema_encode.specs.Writes.{Refused};
 ghost use Rattle.asn1_schema_errors.specs.Calls.{EncoderCall};
+ghost use Rattle.asn1_schema_forms.specs.Forms.{form_bounds};
 ghost use Rattle.asn1_schema_laws.specs.Chains.{Chain};
 ghost use Rattle.asn1_schema_laws.specs.Records.{identifier, whole};
 ghost use Rattle.asn1_table_tape.specs.Records.{record_of, records_of, number_record, item_record};
 ghost use Rattle.asn1_table_tape.specs.Records.{bits_record, octets_record, list_record, choice_record};
-ghost use Rattle.asn1_table_tape.specs.Replays.{CannotChain};
+ghost use Rattle.asn1_table_tape.specs.Replays.{CannotChain, Replayed};
+ghost use Rattle.asn1_table_types.specs.Forms.{bounds_there};
 ghost use Rattle.asn1_table_types.specs.Choices.{tags_at};
 ghost use Rattle.asn1_table_nodes.specs.Meaning.{bounds_in, held_in};
 
 use crate::strings::replay_text;
 use crate::tape::Event;
 use crate::terms::{
-    any_sizes, bit_sizes_at, items_at, number_constraints, octet_sizes_at, size_constraints,
+    any_sizes, bit_sizes_at, elements_at, items_at, number_constraints, octet_sizes_at,
+    size_constraints,
 };
 use asn1_schema_constraints::Bounded;
 use asn1_schema_encode::Encoder;
 use asn1_schema_errors::EncodeError;
+use asn1_schema_forms::NumberForm;
 use asn1_schema_tags::{Chosen, Identifier, Tag};
 use asn1_table_types::{NumberLimits, TypeNode, Types};
 use asn1_values_bit_strings::BitString;
@@ -36,10 +40,81 @@ pub fn replay<E: Encoder>(encoder: &mut E, types: &Types, tape: &[Event]) -> Res
     ensures front { E.front encoder.new ≡ E.front encoder.old }
     ensures after { result ≡ Err EncodeError.AlreadyFailed → E.has_failed encoder.old }
 {
-    for event in tape {
+    let mut rest = tape;
+    while let Some((event, behind)) = rest.split_first() {
         replay_one(encoder, types, event)?;
+        rest = behind;
+        if let Event::ListBegins(list, _count) = event {
+            rest = replay_elements(encoder, types, *list, behind)?;
+        }
     }
     Ok(())
+}
+
+// The elements of a list of the type at this index, if they are numbers in a form. Answers what is behind them.
+#[inline(always)]
+fn replay_elements<'a, E: Encoder>(
+    encoder: &mut E,
+    types: &Types,
+    list: usize,
+    tape: &'a [Event],
+) -> Result<&'a [Event], EncodeError>
+    ensures ok { IfOk result (λ rest.
+        Replayed E.step types.now.nodes.items tape.now rest.now encoder.old encoder.new) }
+    ensures left { IfOk result (λ rest. length rest.now ≤ length tape.now) }
+    ensures only { IfErr result
+        (CannotChain E.step (records_of types.now.nodes.items tape.now) encoder.old) }
+    ensures failed { OnErr result (E.has_failed encoder.new) }
+    ensures going { OnOk result (E.has_failed encoder.new → E.has_failed encoder.old) }
+    ensures front { E.front encoder.new ≡ E.front encoder.old }
+    ensures after { result ≡ Err EncodeError.AlreadyFailed → E.has_failed encoder.old }
+{
+    let Some(members) = elements_at(types, list) else {
+        return Ok(tape);
+    };
+    match types.number_form(members) {
+        Some(form) => replay_numbers(encoder, types, form, members, tape),
+        None => Ok(tape),
+    }
+}
+
+// Numbers of the type at this index, which has this form, and whether others follow. Answers what is behind them.
+fn replay_numbers<'a, E: Encoder>(
+    encoder: &mut E,
+    types: &Types,
+    form: &NumberForm,
+    members: usize,
+    tape: &'a [Event],
+) -> Result<&'a [Event], EncodeError>
+    requires { bounds_there (slice_get types.now.nodes.items members) ≡ Some (form_bounds form.now) }
+    ensures ok { IfOk result (λ rest.
+        Replayed E.step types.now.nodes.items tape.now rest.now encoder.old encoder.new) }
+    ensures left { IfOk result (λ rest. length rest.now ≤ length tape.now) }
+    ensures only { IfErr result
+        (CannotChain E.step (records_of types.now.nodes.items tape.now) encoder.old) }
+    ensures failed { OnErr result (E.has_failed encoder.new) }
+    ensures going { OnOk result (E.has_failed encoder.new → E.has_failed encoder.old) }
+    ensures front { E.front encoder.new ≡ E.front encoder.old }
+    ensures after { result ≡ Err EncodeError.AlreadyFailed → E.has_failed encoder.old }
+{
+    let mut rest = tape;
+    while let Some((event, behind)) = rest.split_first() {
+        match event {
+            Event::Further(more) => encoder.encode_further(*more)?,
+            Event::Number(place, value) => {
+                if *place != members {
+                    return Ok(rest);
+                }
+                let Some(number) = value.to_i128() else {
+                    return Ok(rest);
+                };
+                encoder.encode_number(form, number)?;
+            }
+            _ => return Ok(rest),
+        }
+        rest = behind;
+    }
+    Ok(rest)
 }
 
 // One record.

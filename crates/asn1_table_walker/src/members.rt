@@ -167,6 +167,7 @@ fn find_element<D: Decoder>(
 }
 
 // Reads the elements of a list of numbers in this form, and its end.
+#[inline(never)]
 fn read_numbers<D: Decoder>(
     alloc: Global,
     decoder: &mut D,
