@@ -65,13 +65,12 @@ impl Codec {
         Ok(octets)
     }
 
-    /// Appends the canonical encoding of a value by these rules to the octets in `out`. The octets of PER, whose fields
-    /// need not begin at an octet of `out`, are first written in `room`, whose contents they replace. Nothing is
-    /// allocated if both have capacity for the message.
+    /// Appends the canonical encoding of a value by these rules to the octets in `out`. That of PER is first written in
+    /// `room`, whose contents it replaces. The octets need no memory if both have capacity for them (OER: `out`).
     ///
     /// # Errors
     ///
-    /// As for `encode`; `out` then has its previous contents.
+    /// As for `encode`; `out` then has its previous contents, and `room` may have lost its capacity.
     pub fn encode_into<T: Encode>(
         self,
         alloc: Global,

@@ -1,7 +1,7 @@
-//! Translation between encoding rules of ASN.1: of one message (`recode`), of streams of messages in pieces of any
-//! length (`Relay`, `run`), and of messages that pass from hop to hop, each of which knows the older or the newer
-//! version of their type (`route`). The type is a Rust type, or one that is known only at run time (`MessageType`:
-//! `recode_of`, `RelayOf`, `run_of`, `route_of`).
+//! Translation between encoding rules of ASN.1: of one message (`recode`, `recode_into`), of streams of messages in
+//! pieces of any length (`Relay`, `run`), and of messages that pass from hop to hop, each of which knows the older or
+//! the newer version of their type (`route`). The type is a Rust type, or one that is known only at run time
+//! (`MessageType`: `recode_of`, `recode_into_of`, `RelayOf`, `run_of`, `route_of`).
 #![tactic(auto)]
 
 mod codec;

@@ -65,13 +65,13 @@ pub trait MessageType: MessageSchema {
     ///
     /// # Errors
     ///
-    /// As for `write`; `out` then has its previous contents.
+    /// As for `write`; `out` then has its previous contents, and `room` may have lost its capacity.
     fn write_into(
         &self,
         alloc: Global,
         to: Codec,
         value: &Self::Value,
-        _room: &mut Vec<u8>,
+        room: &mut Vec<u8>,
         out: &mut Vec<u8>,
     ) -> Result<(), EncodeError>
         ensures ok { OnOk result ((octets : List ℕ)
@@ -81,8 +81,8 @@ pub trait MessageType: MessageSchema {
         ensures kinds { IfErr result IsOfValue }
         ensures same { OnErr result (out.new.items ≡ out.old.items) }
     {
-        let octets = self.write(alloc, to, value)?;
-        out.extend_from_slice(octets.as_slice())?;
+        *room = self.write(alloc, to, value)?;
+        out.extend_from_slice(room.as_slice())?;
         Ok(())
     }
 

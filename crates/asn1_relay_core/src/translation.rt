@@ -139,12 +139,12 @@ fn read_alone<M: MessageType>(
     Ok(value)
 }
 
-/// As `recode`, but appends the translation to the octets in `out`. It may first be written in `room`, whose contents it
-/// then replaces: where both have capacity for it, no memory is needed for what is written.
+/// As `recode`, but appends the translation to the octets in `out`, by way of `room` as in `Codec::encode_into`. At most
+/// one result is right (`one_answer_is_right` of `asn1_laws_versions`), and this is it.
 ///
 /// # Errors
 ///
-/// As for `recode`; `out` then has its previous contents.
+/// As for `recode`; `out` then has its previous contents, and `room` may have lost its capacity.
 #[inline(always)]
 pub fn recode_into<T: Encode + Decode>(
     alloc: Global,
@@ -167,7 +167,7 @@ pub fn recode_into<T: Encode + Decode>(
     recode_into_of(alloc, &RustType::<T>::new(), from, to, input, room, out)
 }
 
-/// As `recode_into`, for messages of a type that is passed.
+/// As `recode_into`, for messages of a type that is passed, by its `write_into`.
 ///
 /// # Errors
 ///

@@ -1,5 +1,6 @@
 //! The calls of the library for a type of a table.
 use crate::assignments::Assignments;
+use crate::of::{BEFORE, after_first};
 use crate::relays::{feed_pieces, follow_octets};
 use asn1_notation_types::Table;
 use asn1_relay_core::{Codec, DecodeError, MemorySink, MemorySource, MessageType};
@@ -91,11 +92,11 @@ impl Judged for OfTable {
     }
 }
 
-/// Encodes a value of a type.
+/// Encodes a value of a type, after an octet.
 fn encode<M: MessageType>(alloc: Global, messages: &M, to: Codec, value: &M::Value) -> Encoded {
-    let mut octets = Vec::new(alloc);
+    let mut octets = Vec::from_slice(alloc, &BEFORE)?;
     messages.write_into(alloc, to, value, &mut Vec::new(alloc), &mut octets)?;
-    Ok(octets)
+    after_first(alloc, &octets)
 }
 
 /// Judges a line over the table of its type.

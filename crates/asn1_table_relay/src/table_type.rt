@@ -61,8 +61,8 @@ impl<'a> MessageType for TableType<'a> {
         let cleared = mem::replace(room, Vec::new(alloc));
         match write(alloc, self.types, to, tape.as_slice(), cleared) {
             Ok(octets) => {
-                out.extend_from_slice(octets.as_slice())?;
                 *room = octets;
+                out.extend_from_slice(room.as_slice())?;
                 Ok(())
             }
             Err(error) => Err(error),
