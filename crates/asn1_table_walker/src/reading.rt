@@ -76,6 +76,7 @@ fn take_innermost(innermost: Option<Frame>, outer: &mut Vec<Frame>) -> Option<Fr
 
 // One turn of the innermost frame: the next call that it asks for, and the beginning of a value that comes. Answers the
 // frame that is then the innermost, unless that is one of the outer ones.
+#[inline(always)]
 fn turn<D: Decoder>(
     alloc: Global,
     decoder: &mut D,
