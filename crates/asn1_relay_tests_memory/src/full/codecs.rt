@@ -90,7 +90,7 @@ fn are_translated(alloc: Global, room: &mut Vec<u8>, out: &mut Vec<u8>) -> bool 
     recode_into::<Small>(alloc, Codec::Coer, Codec::Uper, &[0x03], room, out) == Ok(())
         && recode_into::<Small>(alloc, Codec::Uper, Codec::Coer, &[0x80], room, out) == Ok(())
         && recode_into::<Small>(alloc, Codec::Uper, Codec::Coer, &[0xF0], room, out).is_err()
-        && out.as_slice() == [0xAA, 0x80, 0x03]
+        && out.as_slice() == [0xAA, 0x80, 0x03].as_slice()
 }
 
 /// What the calls are made on. It was created before memory was taken.
