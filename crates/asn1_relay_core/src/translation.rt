@@ -139,8 +139,8 @@ fn read_alone<M: MessageType>(
     Ok(value)
 }
 
-/// As `recode`, but appends the translation to the octets in `out`, by way of `room` as in `Codec::encode_into`. At most
-/// one result is right (`one_answer_is_right` of `asn1_laws_versions`), and this is it.
+/// As `recode`, but appends the translation to the octets in `out`, by way of `room` as in `Codec::encode_into`. At
+/// most one result is right (`one_answer_is_right` of `asn1_laws_versions`), and this is it.
 ///
 /// # Errors
 ///
