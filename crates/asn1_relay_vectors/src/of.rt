@@ -89,19 +89,12 @@ fn read_front<'input, T: Decode>(
     }
 }
 
-/// An octet before an encoding, which must stay.
-pub(crate) const BEFORE: [u8; 1] = [0xA5];
-
-/// The octets after that one, and none where it did not stay.
-pub(crate) fn after_first(alloc: Global, octets: &[u8]) -> Encoded {
-    let rest = octets.strip_prefix(&BEFORE).unwrap_or(&[]);
-    let encoding = Vec::from_slice(alloc, rest)?;
-    Ok(encoding)
-}
-
-/// Encodes a value of a type, after an octet.
+/// Encodes a value of a type.
 fn encode<T: Encode>(alloc: Global, codec: Codec, value: &T) -> Encoded {
-    let mut octets = Vec::from_slice(alloc, &BEFORE)?;
-    codec.encode_into(alloc, value, &mut Vec::new(alloc), &mut octets)?;
-    after_first(alloc, &octets)
+    match codec {
+        Codec::Uper | Codec::UperStrict => uper::encode(alloc, value),
+        Codec::Aper | Codec::AperStrict => aper::encode(alloc, value),
+        Codec::Oer => oer::encode(alloc, value),
+        Codec::Coer => coer::encode(alloc, value),
+    }
 }

@@ -1,11 +1,10 @@
 //! The calls of the library for a type of a table.
 use crate::assignments::Assignments;
-use crate::of::{BEFORE, after_first};
 use crate::relays::{feed_pieces, follow_octets};
 use asn1_notation_types::Table;
-use asn1_relay_core::{Codec, DecodeError, MemorySink, MemorySource, MessageType};
+use asn1_relay_core::{DecodeError, MemorySink, MemorySource, MessageType};
 use asn1_relay_vectors_judging::cuts::Inputs;
-use asn1_relay_vectors_judging::judged::{Encoded, Judged, Ran, Rules, Step, Told, Translated};
+use asn1_relay_vectors_judging::judged::{Judged, Ran, Rules, Step, Told, Translated};
 use asn1_relay_vectors_judging::judging::judge;
 use asn1_relay_vectors_judging::streams::{Relayed, Way};
 use asn1_relay_vectors_lines::line::{Line, Verdict};
@@ -45,7 +44,8 @@ impl Judged for OfTable {
         };
         match messages.read_front(alloc, rules.from, octets) {
             Ok((value, rest)) => {
-                Ok(Told::new(octets, rest, encode(alloc, &messages, rules.to, &value)))
+                let encoded = messages.write(alloc, rules.to, &value);
+                Ok(Told::new(octets, rest, encoded))
             }
             Err(refusal) => Err(refusal.error),
         }
@@ -90,13 +90,6 @@ impl Judged for OfTable {
         );
         Some((answer, sink))
     }
-}
-
-/// Encodes a value of a type, after an octet.
-fn encode<M: MessageType>(alloc: Global, messages: &M, to: Codec, value: &M::Value) -> Encoded {
-    let mut octets = Vec::from_slice(alloc, &BEFORE)?;
-    messages.write_into(alloc, to, value, &mut Vec::new(alloc), &mut octets)?;
-    after_first(alloc, &octets)
 }
 
 /// Judges a line over the table of its type.
