@@ -38,6 +38,7 @@ impl Components for ExtraFields {
         Optional(&self.x, End).encode_components(encoder)
     }
 
+    #[inline(always)]
     fn read_components<D: Decoder>(alloc: Global, decoder: &mut D) -> Result<Self, DecodeError> {
         let OptionalComponent(x, End) = Form::decode_components(alloc, decoder)?;
         Ok(ExtraFields { x })

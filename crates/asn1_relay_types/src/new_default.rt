@@ -65,6 +65,7 @@ impl Components for NewDefaultFields {
         Defaulted(&self.s, PhantomData::<TrueAlone>, End).encode_components(encoder)
     }
 
+    #[inline(always)]
     fn read_components<D: Decoder>(alloc: Global, decoder: &mut D) -> Result<Self, DecodeError> {
         let DefaultedComponent(s, _, End) = Form::decode_components(alloc, decoder)?;
         Ok(NewDefaultFields { s })

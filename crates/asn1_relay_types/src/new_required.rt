@@ -47,6 +47,7 @@ impl Components for NewRequiredFields {
         Required(&self.a, ExtensionMarker { additions }).encode_components(encoder)
     }
 
+    #[inline(always)]
     fn read_components<D: Decoder>(alloc: Global, decoder: &mut D) -> Result<Self, DecodeError> {
         let form = Form::decode_components(alloc, decoder)?;
         let RequiredComponent(a, ExtensibleComponents(AddedRequiredComponent(r, NoMore), _)) = form;

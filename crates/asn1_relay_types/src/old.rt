@@ -40,6 +40,7 @@ impl Components for OldFields {
         Required(&self.a, marker).encode_components(encoder)
     }
 
+    #[inline(always)]
     fn read_components<D: Decoder>(alloc: Global, decoder: &mut D) -> Result<Self, DecodeError> {
         let form = Form::decode_components(alloc, decoder)?;
         let RequiredComponent(a, ExtensibleComponents(NoMore, _)) = form;

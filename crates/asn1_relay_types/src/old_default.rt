@@ -61,6 +61,7 @@ impl Components for OldDefaultFields {
         Defaulted(&self.s, PhantomData::<TrueAlone>, End).encode_components(encoder)
     }
 
+    #[inline(always)]
     fn read_components<D: Decoder>(alloc: Global, decoder: &mut D) -> Result<Self, DecodeError> {
         let DefaultedComponent(s, _, End) = Form::decode_components(alloc, decoder)?;
         Ok(OldDefaultFields { s })

@@ -42,6 +42,7 @@ impl Components for PairFields {
         Required(&self.a, Required(&self.b, End)).encode_components(encoder)
     }
 
+    #[inline(always)]
     fn read_components<D: Decoder>(alloc: Global, decoder: &mut D) -> Result<Self, DecodeError> {
         let form = Form::decode_components(alloc, decoder)?;
         let RequiredComponent(a, RequiredComponent(b, End)) = form;

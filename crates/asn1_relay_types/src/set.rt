@@ -49,6 +49,7 @@ impl Components for SetFields {
         Optional(&self.c, Optional(&self.b, Optional(&self.a, End))).encode_components(encoder)
     }
 
+    #[inline(always)]
     fn read_components<D: Decoder>(alloc: Global, decoder: &mut D) -> Result<Self, DecodeError> {
         let OptionalComponent(c, rest) = Form::decode_components(alloc, decoder)?;
         let OptionalComponent(b, OptionalComponent(a, End)) = rest;

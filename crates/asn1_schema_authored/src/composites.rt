@@ -214,6 +214,7 @@ fn begin_written<E: Encoder>(encoder: &mut E, tag: Tag, heading: Heading) -> Res
 }
 
 impl<T: Components> Decode for Composite<T> {
+    #[inline(always)]
     fn decode_with_tag_and_constraints<D: Decoder>(
         alloc: Global,
         decoder: &mut D,
@@ -227,6 +228,7 @@ impl<T: Components> Decode for Composite<T> {
 }
 
 /// Begins a SEQUENCE or SET of a decoder.
+#[inline(always)]
 fn begin_read<D: Decoder>(decoder: &mut D, tag: Tag, heading: Heading) -> Result<(), DecodeError>
     ensures ok { OnOk result
         (D.step decoder.old (begins (form_of heading.set) heading.extensible heading.optional) decoder.new) }

@@ -29,6 +29,7 @@ use std::marker::PhantomData;
 /// Extension additions that can be decoded.
 pub trait DecodeAdditions: AdditionsOf + Drop {
     /// Reads the additions, and the end of the SEQUENCE or SET.
+    #[inline(always)]
     fn decode_additions<D: Decoder>(alloc: Global, decoder: &mut D) -> Result<Self, DecodeError>
         ensures ok { IfOk result
             (λ x. ReadsAdded D.step Self.additions (D.levels decoder.old) (Self.parts x) decoder.old decoder.new) }
@@ -38,6 +39,7 @@ pub trait DecodeAdditions: AdditionsOf + Drop {
 }
 
 impl DecodeAdditions for NoMore {
+    #[inline(always)]
     fn decode_additions<D: Decoder>(_alloc: Global, decoder: &mut D) -> Result<Self, DecodeError> {
         decoder.end()?;
         Ok(NoMore)
@@ -45,6 +47,7 @@ impl DecodeAdditions for NoMore {
 }
 
 impl<T: Decode, R: DecodeAdditions> DecodeAdditions for AddedRequiredComponent<T, R> {
+    #[inline(always)]
     fn decode_additions<D: Decoder>(alloc: Global, decoder: &mut D) -> Result<Self, DecodeError> {
         let value = decoder.decode_required_extension_addition(alloc)?;
         let rest = R::decode_additions(alloc, decoder)?;
@@ -53,6 +56,7 @@ impl<T: Decode, R: DecodeAdditions> DecodeAdditions for AddedRequiredComponent<T
 }
 
 impl<T: Decode, R: DecodeAdditions> DecodeAdditions for AddedOptionalComponent<T, R> {
+    #[inline(always)]
     fn decode_additions<D: Decoder>(alloc: Global, decoder: &mut D) -> Result<Self, DecodeError> {
         let value = decoder.decode_extension_addition(alloc)?;
         let rest = R::decode_additions(alloc, decoder)?;
@@ -62,6 +66,7 @@ impl<T: Decode, R: DecodeAdditions> DecodeAdditions for AddedOptionalComponent<T
 
 impl<V: DefaultOf<T> + Drop, T: Decode, R: DecodeAdditions> DecodeAdditions
     for AddedDefaultedComponent<V, T, R> {
+    #[inline(always)]
     fn decode_additions<D: Decoder>(alloc: Global, decoder: &mut D) -> Result<Self, DecodeError> {
         let value = decoder.decode_extension_addition_with_default::<V, T>(alloc)?;
         let rest = R::decode_additions(alloc, decoder)?;
@@ -70,6 +75,7 @@ impl<V: DefaultOf<T> + Drop, T: Decode, R: DecodeAdditions> DecodeAdditions
 }
 
 impl<G: Group, R: DecodeAdditions> DecodeAdditions for AddedGroupComponent<G, R> {
+    #[inline(always)]
     fn decode_additions<D: Decoder>(alloc: Global, decoder: &mut D) -> Result<Self, DecodeError> {
         let value = decoder.decode_extension_addition_group(alloc)?;
         let rest = R::decode_additions(alloc, decoder)?;
@@ -78,6 +84,7 @@ impl<G: Group, R: DecodeAdditions> DecodeAdditions for AddedGroupComponent<G, R>
 }
 
 impl<M: CountOf<A> + Drop, A: DecodeAdditions> DecodeComponents for ExtensibleComponents<M, A> {
+    #[inline(always)]
     fn decode_components<D: Decoder>(alloc: Global, decoder: &mut D) -> Result<Self, DecodeError> {
         let count = A::count();
         decoder.begin_additions(count)?;
@@ -90,6 +97,7 @@ impl<M: CountOf<A> + Drop, A: DecodeAdditions> DecodeComponents for ExtensibleCo
 pub trait DecodeExtension: Decoder {
     /// Decodes an addition that is present in every value that this version of the type, or a newer one, encoded. If it
     /// is absent, the error is `RequiredExtensionNotPresent`.
+    #[inline(always)]
     final fn decode_required_extension_addition<T: Decode>(
         &mut self,
         alloc: Global,
@@ -113,6 +121,7 @@ pub trait DecodeExtension: Decoder {
     }
 
     /// Decodes an addition that may be absent (X.680 25; X.691 19.7 to 19.9, X.696 16).
+    #[inline(always)]
     final fn decode_extension_addition<T: Decode>(
         &mut self,
         alloc: Global,
@@ -130,6 +139,7 @@ pub trait DecodeExtension: Decoder {
     }
 
     /// As `decode_extension_addition`, with another tag.
+    #[inline(always)]
     final fn decode_extension_addition_with_tag<T: Decode>(
         &mut self,
         alloc: Global,
@@ -153,6 +163,7 @@ pub trait DecodeExtension: Decoder {
     }
 
     /// As `decode_extension_addition`, under these constraints.
+    #[inline(always)]
     final fn decode_extension_addition_with_constraints<T: Decode>(
         &mut self,
         alloc: Global,
@@ -173,6 +184,7 @@ pub trait DecodeExtension: Decoder {
 
     /// As `decode_extension_addition`, under these constraints and with a further, explicit tag (X.680 31.2.8), which
     /// PER and OER do not encode.
+    #[inline(always)]
     final fn decode_extension_addition_with_explicit_tag_and_constraints<T: Decode>(
         &mut self,
         alloc: Global,
@@ -193,6 +205,7 @@ pub trait DecodeExtension: Decoder {
     }
 
     /// As `decode_extension_addition`, with another tag and under these constraints.
+    #[inline(always)]
     final fn decode_extension_addition_with_tag_and_constraints<T: Decode>(
         &mut self,
         alloc: Global,
@@ -221,6 +234,7 @@ pub trait DecodeExtension: Decoder {
     /// Decodes an addition with a default; if it is absent, its value is the default (X.680 25). If it is present and
     /// equal to the default, `note_default` is called, which a decoder of canonical rules, or a strict one, refuses
     /// (X.691 19.5 and X.696 16 in their canonical forms).
+    #[inline(always)]
     final fn decode_extension_addition_with_default<V: DefaultOf<T>, T: Decode>(
         &mut self,
         alloc: Global,
@@ -239,6 +253,7 @@ pub trait DecodeExtension: Decoder {
     }
 
     /// As `decode_extension_addition_with_default`, with another tag.
+    #[inline(always)]
     final fn decode_extension_addition_with_default_and_tag<V: DefaultOf<T>, T: Decode>(
         &mut self,
         alloc: Global,
@@ -263,6 +278,7 @@ pub trait DecodeExtension: Decoder {
     }
 
     /// As `decode_extension_addition_with_default`, under these constraints.
+    #[inline(always)]
     final fn decode_extension_addition_with_default_and_constraints<V: DefaultOf<T>, T: Decode>(
         &mut self,
         alloc: Global,
@@ -286,6 +302,7 @@ pub trait DecodeExtension: Decoder {
     }
 
     /// As `decode_extension_addition_with_default`, with another tag and under these constraints.
+    #[inline(always)]
     final fn decode_extension_addition_with_default_and_tag_and_constraints<
         V: DefaultOf<T>,
         T: Decode,
@@ -317,6 +334,7 @@ pub trait DecodeExtension: Decoder {
     }
 
     /// Decodes the components of an extension addition group (X.680 25.1), and its end.
+    #[inline(always)]
     final fn decode_group<G: Group>(&mut self, alloc: Global) -> Result<G, DecodeError>
     where
         Self: Sized,
@@ -335,6 +353,7 @@ pub trait DecodeExtension: Decoder {
 
     /// Decodes an extension addition group (X.680 25.1). If none of its components is present, it is `None`, and
     /// `note_empty` is called, which a decoder of canonical rules, or a strict one, refuses.
+    #[inline(always)]
     final fn decode_extension_addition_group<G: Group>(
         &mut self,
         alloc: Global,
@@ -364,6 +383,7 @@ pub trait DecodeExtension: Decoder {
 
     /// Decodes a SEQUENCE (X.680 25) of these components with an extension marker; `optional` of its root components
     /// may be absent.
+    #[inline(always)]
     final fn decode_extensible_components<C: DecodeComponents>(
         &mut self,
         alloc: Global,

@@ -22,6 +22,7 @@ use std::marker::PhantomData;
 /// Components that can be decoded.
 pub trait DecodeComponents: ComponentsOf + Drop {
     /// Reads the components, and the end of the SEQUENCE.
+    #[inline(always)]
     fn decode_components<D: Decoder>(alloc: Global, decoder: &mut D) -> Result<Self, DecodeError>
         ensures ok { IfOk result
             (λ x. ReadsTail D.step Self.table (D.levels decoder.old) (Self.root x) (Self.added x)
@@ -32,6 +33,7 @@ pub trait DecodeComponents: ComponentsOf + Drop {
 }
 
 impl DecodeComponents for End {
+    #[inline(always)]
     fn decode_components<D: Decoder>(_alloc: Global, decoder: &mut D) -> Result<Self, DecodeError> {
         decoder.end()?;
         Ok(End)
@@ -39,6 +41,7 @@ impl DecodeComponents for End {
 }
 
 impl<T: Decode, R: DecodeComponents> DecodeComponents for RequiredComponent<T, R> {
+    #[inline(always)]
     fn decode_components<D: Decoder>(alloc: Global, decoder: &mut D) -> Result<Self, DecodeError> {
         let value = T::decode(alloc, decoder)?;
         let rest = R::decode_components(alloc, decoder)?;
@@ -47,6 +50,7 @@ impl<T: Decode, R: DecodeComponents> DecodeComponents for RequiredComponent<T, R
 }
 
 impl<T: Decode, R: DecodeComponents> DecodeComponents for OptionalComponent<T, R> {
+    #[inline(always)]
     fn decode_components<D: Decoder>(alloc: Global, decoder: &mut D) -> Result<Self, DecodeError> {
         let value = decoder.decode_optional(alloc)?;
         let rest = R::decode_components(alloc, decoder)?;
@@ -56,6 +60,7 @@ impl<T: Decode, R: DecodeComponents> DecodeComponents for OptionalComponent<T, R
 
 impl<V: DefaultOf<T> + Drop, T: Decode, R: DecodeComponents> DecodeComponents
     for DefaultedComponent<V, T, R> {
+    #[inline(always)]
     fn decode_components<D: Decoder>(alloc: Global, decoder: &mut D) -> Result<Self, DecodeError> {
         let value = decoder.decode_default::<V, T>(alloc)?;
         let rest = R::decode_components(alloc, decoder)?;
@@ -66,6 +71,7 @@ impl<V: DefaultOf<T> + Drop, T: Decode, R: DecodeComponents> DecodeComponents
 /// Decodes components and SEQUENCE types.
 pub trait DecodeSequence: Decoder {
     /// Decodes an OPTIONAL component.
+    #[inline(always)]
     final fn decode_optional<T: Decode>(&mut self, alloc: Global) -> Result<Option<T>, DecodeError>
     where
         Self: Sized,
@@ -80,6 +86,7 @@ pub trait DecodeSequence: Decoder {
     }
 
     /// As `decode_optional`, with another tag.
+    #[inline(always)]
     final fn decode_optional_with_tag<T: Decode>(
         &mut self,
         alloc: Global,
@@ -99,6 +106,7 @@ pub trait DecodeSequence: Decoder {
     }
 
     /// As `decode_optional`, under these constraints.
+    #[inline(always)]
     final fn decode_optional_with_constraints<T: Decode>(
         &mut self,
         alloc: Global,
@@ -118,6 +126,7 @@ pub trait DecodeSequence: Decoder {
     }
 
     /// As `decode_optional`, with another tag and under these constraints.
+    #[inline(always)]
     final fn decode_optional_with_tag_and_constraints<T: Decode>(
         &mut self,
         alloc: Global,
@@ -143,6 +152,7 @@ pub trait DecodeSequence: Decoder {
     }
 
     /// Decodes an OPTIONAL component with a further, explicit tag (X.680 31.2.8). PER and OER do not encode it.
+    #[inline(always)]
     final fn decode_optional_with_explicit_prefix<T: Decode>(
         &mut self,
         alloc: Global,
@@ -163,6 +173,7 @@ pub trait DecodeSequence: Decoder {
     /// Decodes a component with a default; if it is absent, its value is the default (X.680 25). If it is present and
     /// equal to the default, `note_default` is called, which a decoder of canonical rules, or a strict one, refuses
     /// (X.691 19.5 and X.696 16 in their canonical forms).
+    #[inline(always)]
     final fn decode_default<V: DefaultOf<T>, T: Decode>(
         &mut self,
         alloc: Global,
@@ -180,6 +191,7 @@ pub trait DecodeSequence: Decoder {
     }
 
     /// As `decode_default`, with another tag.
+    #[inline(always)]
     final fn decode_default_with_tag<V: DefaultOf<T>, T: Decode>(
         &mut self,
         alloc: Global,
@@ -203,6 +215,7 @@ pub trait DecodeSequence: Decoder {
     }
 
     /// As `decode_default`, under these constraints.
+    #[inline(always)]
     final fn decode_default_with_constraints<V: DefaultOf<T>, T: Decode>(
         &mut self,
         alloc: Global,
@@ -222,6 +235,7 @@ pub trait DecodeSequence: Decoder {
     }
 
     /// As `decode_default`, with another tag and under these constraints.
+    #[inline(always)]
     final fn decode_default_with_tag_and_constraints<V: DefaultOf<T>, T: Decode>(
         &mut self,
         alloc: Global,
@@ -254,6 +268,7 @@ pub trait DecodeSequence: Decoder {
     }
 
     /// Decodes a SEQUENCE (X.680 25) of these components, `optional` of which may be absent.
+    #[inline(always)]
     final fn decode_sequence_components<C: DecodeComponents>(
         &mut self,
         alloc: Global,

@@ -11,6 +11,7 @@ use asn1_values_octets::FixedOctetString;
 use std::alloc::Global;
 
 impl<const N: usize> Decode for FixedBitString<N> {
+    #[inline(always)]
     fn decode_with_tag_and_constraints<D: Decoder>(
         alloc: Global,
         decoder: &mut D,
@@ -25,6 +26,7 @@ impl<const N: usize> Decode for FixedBitString<N> {
 }
 
 impl<const N: usize> Decode for FixedOctetString<N> {
+    #[inline(always)]
     fn decode_with_tag_and_constraints<D: Decoder>(
         alloc: Global,
         decoder: &mut D,

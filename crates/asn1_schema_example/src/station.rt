@@ -54,6 +54,7 @@ impl Components for Station {
         Required(&self.id, rest).encode_components(encoder)
     }
 
+    #[inline(always)]
     fn read_components<D: Decoder>(alloc: Global, decoder: &mut D) -> Result<Self, DecodeError> {
         let form = Form::decode_components(alloc, decoder)?;
         let RequiredComponent(id, RequiredComponent(name, OptionalComponent(height, last))) = form;

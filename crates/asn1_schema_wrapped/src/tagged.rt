@@ -122,6 +122,7 @@ impl<T: AsnType, V: Encode> Encode for Implicit<T, V> {
 }
 
 impl<T: AsnType + Drop, V: Decode> Decode for Implicit<T, V> {
+    #[inline(always)]
     fn decode_with_tag_and_constraints<D: Decoder>(
         alloc: Global,
         decoder: &mut D,
@@ -239,6 +240,7 @@ impl<T: AsnType, V: Encode> Encode for Explicit<T, V> {
 }
 
 impl<T: AsnType + Drop, V: Decode> Decode for Explicit<T, V> {
+    #[inline(always)]
     fn decode_with_tag_and_constraints<D: Decoder>(
         alloc: Global,
         decoder: &mut D,
