@@ -37,7 +37,7 @@ pub enum Rules {
 }
 
 /// A message of a type, and what is said of it.
-pub struct Row {
+pub struct PlaceRow {
     pub name: &'static str,
     pub rules: Rules,
     pub message: &'static [u8],
@@ -45,7 +45,7 @@ pub struct Row {
 }
 
 /// Where a message ends or is refused, in words.
-fn words(alloc: Global, row: &Row) -> Option<String> {
+fn words(alloc: Global, row: &PlaceRow) -> Option<String> {
     let table = table(alloc, row.name)?;
     let types = &table.types;
     let names = &table.names;
@@ -60,7 +60,7 @@ fn words(alloc: Global, row: &Row) -> Option<String> {
 }
 
 /// What is said of the first row of which something else is to be said.
-pub fn first_wrong(alloc: Global, rows: &[Row]) -> Option<String> {
+pub fn first_wrong_place(alloc: Global, rows: &[PlaceRow]) -> Option<String> {
     for row in rows {
         let said = words(alloc, row)?;
         if said.as_str() != row.said {

@@ -87,11 +87,11 @@ pub fn string_kind(name: StringName) -> Option<StringKind> {
 
 /// Whether a kind is a known-multiplier type, whose characters take the same number of bits each (X.691 3.7.16).
 pub fn has_known_multiplier(kind: StringKind) -> bool {
-    characters_of(kind).is_some()
+    permitted_characters(kind).is_some()
 }
 
 /// The characters of a kind of string as intervals, if its permitted alphabet counts in PER (X.691 30.1).
-fn characters_of(kind: StringKind) -> Option<&'static [(u32, u32)]> {
+fn permitted_characters(kind: StringKind) -> Option<&'static [(u32, u32)]> {
     match kind {
         StringKind::Numeric => Some(&[(32, 32), (48, 57)]),
         StringKind::Printable => {
@@ -114,7 +114,7 @@ fn characters_of(kind: StringKind) -> Option<&'static [(u32, u32)]> {
 
 /// The characters of a kind of string, if its permitted alphabet counts in PER.
 fn own_characters(alloc: Global, kind: StringKind) -> Result<Option<NumberSet>, AllocError> {
-    let Some(own) = characters_of(kind) else {
+    let Some(own) = permitted_characters(kind) else {
         return Ok(None);
     };
     let mut intervals = Vec::new(alloc);

@@ -9,7 +9,7 @@ use std::alloc::{AllocError, Global};
 use std::borrow::CowStr;
 
 /// The name of a component: its identifier, or one by its index.
-pub fn part_label<'a>(
+pub(crate) fn part_label<'a>(
     alloc: Global,
     name: Option<&'a str>,
     part: Part,
@@ -29,7 +29,7 @@ pub fn part_label<'a>(
 }
 
 /// The name of an alternative: its identifier, or one by its index.
-pub fn alternative_label<'a>(
+pub(crate) fn alternative_label<'a>(
     alloc: Global,
     name: Option<&'a str>,
     chosen: Chosen,
@@ -47,7 +47,7 @@ pub fn alternative_label<'a>(
 }
 
 /// The name of an item: its identifier, or the digits of its number.
-pub fn item_label<'a>(
+pub(crate) fn item_label<'a>(
     alloc: Global,
     name: Option<&'a str>,
     item: isize,

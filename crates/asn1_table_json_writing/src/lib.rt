@@ -23,7 +23,6 @@ mod writing;
 
 pub use decimals::number_text;
 pub use errors::WriteError;
-pub use labels::{alternative_label, part_label};
 pub use output::Style;
 pub use sizes::fixed_size;
 pub use steps::{Step, push_step};
