@@ -58,6 +58,9 @@ pub enum JsonErrorKind {
     /// A number has a fraction or an exponent.
     #[error("a whole number is expected, without an exponent")]
     NotWhole,
+    /// A number has more than 4,932 digits.
+    #[error("a number has more than 4932 digits")]
+    LongNumber,
     /// The ENUMERATED has no item of this name.
     #[error("there is no such item")]
     UnknownItem,

@@ -4,7 +4,7 @@
 use crate::errors::{JsonErrorKind, JsonForm};
 use crate::finding::find_item;
 use crate::levels::BitsMembers;
-use crate::numbers::{is_plain, number_of};
+use crate::numbers::{is_long, is_plain, number_of};
 use crate::strings::string_of;
 use asn1_schema_constraints::Sizes;
 use asn1_table_json_writing::fixed_size;
@@ -72,6 +72,9 @@ fn number_in(
 ) -> Result<Option<Event>, JsonErrorKind> {
     if !matches!(node, TypeNode::Integer(_)) {
         return Ok(None);
+    }
+    if is_long(digits) {
+        return Err(JsonErrorKind::LongNumber);
     }
     match number_of(alloc, digits)? {
         Some(number) => Ok(Some(Event::Number(place, number))),

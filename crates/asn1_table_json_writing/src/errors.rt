@@ -15,6 +15,9 @@ pub enum WriteError {
     /// A BMPString has a surrogate code unit (U+D800 to U+DFFF) that is not one of a pair.
     #[error("a BMPString is not Unicode")]
     NotUnicode,
+    /// An INTEGER has more than 2,048 octets.
+    #[error("a number of more than 2048 octets is not written in JSON")]
+    LongNumber,
     /// Memory ran out.
     #[error("out of memory")]
     OutOfMemory,

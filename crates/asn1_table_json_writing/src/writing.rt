@@ -4,7 +4,7 @@
 ghost use Rattle.std.specs.Prelude.{IfOk, string_bytes};
 ghost use Rattle.asn1_table_json_writing.specs.Styles.{IsLaidOut};
 
-use crate::decimals::number_text;
+use crate::decimals::{is_long, number_text};
 use crate::errors::WriteError;
 use crate::labels::{alternative_label, item_label, part_label};
 use crate::output::{CompactText, JsonOutput, Style, pretty_text, put_number};
@@ -22,7 +22,7 @@ use std::alloc::{AllocError, Global};
 /// # Errors
 ///
 /// `OutOfPlace` where the walk over the tape stops, as the tape is that of no value of the type; `NotUnicode`;
-/// `OutOfMemory`.
+/// `LongNumber`; `OutOfMemory`.
 pub fn write_json(
     alloc: Global,
     types: &Types,
@@ -123,6 +123,9 @@ fn put_scalar<W: JsonOutput>(
         Event::Flag(value) => output.put(Token::Bool(*value))?,
         Event::Nil => output.put(Token::Null)?,
         Event::Number(_, number) => {
+            if is_long(number) {
+                return Err(WriteError::LongNumber);
+            }
             let digits = number_text(alloc, number)?;
             put_number(output, digits.as_str())?
         }
