@@ -13,8 +13,8 @@ use asn1_relay_core::{
 use std::alloc::Global;
 use std::io::{ErrorKind, Read, Write};
 
-/// Translates one message of a type, the whole input. Nothing is written before all of it is translated. The octets that
-/// were read are then in `message`.
+/// Translates one message of a type, the whole input. Nothing is written before all of it is translated. The octets
+/// that were read are then in `message`.
 ///
 /// # Errors
 ///
