@@ -117,9 +117,13 @@ generate() {
     ${CC:-clang} -O2 -w "$@" -I"$work/generated" -o "$generated" "$folder/asn1c.c" "$work"/generated/*.c
 }
 
-# prove PROGRAM: proves a program of the benchmark, with all packages that are not built yet, and builds it.
+# prove PROGRAM [WORD..]: proves a program, with all packages that are not built yet, builds it, and runs it with these
+# words, or with `nothing`.
 prove() {
-    (cd "$work/crates/$1" && ${RT:-rt} run -- nothing > "$work/first" 2> "$work/log") || { tail -20 "$work/log" >&2; exit 1; }
+    program=$work/crates/$1
+    shift
+    [ $# -gt 0 ] || set -- nothing
+    (cd "$program" && ${RT:-rt} run -- "$@" > "$work/first" 2> "$work/log") || { tail -20 "$work/log" >&2; exit 1; }
 }
 
 # timed WHO COMMAND..: the lines that a program prints for its works, each after WHO.

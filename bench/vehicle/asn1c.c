@@ -3,19 +3,6 @@
 #include "../asn1c.h"
 #include <Awareness.h>
 
-static int make_messages(struct buffer *b)
-{
-    struct vehicle v;
-    uint64_t state = 1;
-    unsigned i;
-    for (i = 0; i < COUNT; i++) {
-        make_vehicle(&v, &state);
-        if (!put_uper(b, &v))
-            return 0;
-    }
-    return 1;
-}
-
 int main(void)
 {
     struct buffer messages = {0}, again = {0};
@@ -23,7 +10,7 @@ int main(void)
     void **values = malloc(COUNT * sizeof *values);
     double start, time;
     unsigned i;
-    if (!values || !make_messages(&messages))
+    if (!values || !make_messages(&messages, COUNT, SIZE_MAX))
         return 1;
     in.octets = messages.octets;
     in.count = messages.count;

@@ -1,26 +1,14 @@
-/* The messages of vehicles in plain C, read in UPER and written in COER, and back; then an OCTET STRING and a list of
- * INTEGER (0..255) from COER to UPER and back. Each line has the name of the work, its time in microseconds and a sum of
- * the octets that it wrote. */
+/* The messages of vehicles in plain C, read in UPER and written in COER, and back; then signed records, an OCTET STRING
+ * and a list of INTEGER (0..255) from COER to UPER and back. Each line has the name of the work, its time in
+ * microseconds and a sum of the octets that it wrote. */
 #include "vehicle.h"
+#include "record.h"
 
 #ifdef FEW
 #define LONG ((size_t)8 * 1024 * 1024 / 100)
 #else
 #define LONG ((size_t)8 * 1024 * 1024)
 #endif
-
-static int make_messages(struct buffer *b)
-{
-    struct vehicle v;
-    uint64_t state = 1;
-    unsigned i;
-    for (i = 0; i < COUNT; i++) {
-        make_vehicle(&v, &state);
-        if (!put_uper(b, &v))
-            return 0;
-    }
-    return 1;
-}
 
 /* Translates all messages by a reader and a writer. */
 INLINED int time_way(
@@ -40,6 +28,41 @@ INLINED int time_way(
         keep(&v);
         if (!put(b, &v))
             return 0;
+    }
+    time = now() - start;
+    tell(name, time, sum_of(b->octets, b->count));
+    return 1;
+}
+
+static int make_records(struct buffer *b)
+{
+    uint64_t state = 1;
+    unsigned i;
+    for (i = 0; i < COUNT; i++)
+        if (!make_record(b, &state))
+            return 0;
+    return 1;
+}
+
+/* Translates all records by a reader and a writer. */
+INLINED int time_records(
+    const char *name,
+    const struct buffer *records,
+    struct buffer *b,
+    int (*get)(struct input *in, struct record *r),
+    int (*put)(struct buffer *b, const struct record *r))
+{
+    struct input in = {records->octets, records->count, 0};
+    double start = now(), time;
+    unsigned i;
+    for (i = 0; i < COUNT; i++) {
+        struct record r = {0};
+        if (!get(&in, &r))
+            return 0;
+        keep(&r);
+        if (!put(b, &r))
+            return 0;
+        drop_record(&r);
     }
     time = now() - start;
     tell(name, time, sum_of(b->octets, b->count));
@@ -145,10 +168,13 @@ INLINED int time_long(const char *to_uper, const char *to_coer, int is_list)
 
 int main(void)
 {
-    struct buffer packed = {0}, octets = {0}, again = {0};
-    return make_messages(&packed)
+    struct buffer packed = {0}, octets = {0}, again = {0}, records = {0}, packed_records = {0}, records_again = {0};
+    return make_messages(&packed, COUNT, SIZE_MAX)
         && time_way("recode_messages_to_coer", &packed, &octets, get_uper, put_coer)
         && time_way("recode_messages_to_uper", &octets, &again, get_coer, put_uper)
+        && make_records(&records)
+        && time_records("recode_records_to_uper", &records, &packed_records, get_coer_record, put_uper_record)
+        && time_records("recode_records_to_coer", &packed_records, &records_again, get_uper_record, put_coer_record)
         && time_long("recode_string_to_uper", "recode_string_to_coer", 0)
         && time_long("recode_list_to_uper", "recode_list_to_coer", 1)
         ? 0 : 1;

@@ -1,8 +1,9 @@
 #!/bin/sh
 # bench/vehicle/run.sh count|time [FOLDER]: messages of vehicles through the table of vehicle.asn1 from UPER to COER and
-# back, the same in C by hand, and reading and writing in UPER in the code that asn1c generates; then a list and a string
-# of 8 MiB. `count` prints the instructions of a message, an element and an octet, over a hundredth of them, as valgrind
-# counts; `time` the best of five runs, and how many messages a second that is. RT, CC and RUN are as in shared.sh.
+# back, the same in C by hand, and reading and writing in UPER in the code that asn1c generates; then signed records, a
+# list and a string of 8 MiB. `count` prints the instructions of a message, an element and an octet, over a hundredth of
+# them, as valgrind counts; `time` the best of five runs, and how many a second that is. RT, CC and RUN are as in
+# shared.sh.
 here=$(cd "$(dirname "$0")/.." && pwd)
 wanted=${1:-count}
 work=${2:-$(mktemp -d)}
@@ -47,7 +48,7 @@ awk -v wanted="$wanted" '
       sum[work] = $4 }
     END {
         for (i = 1; i <= n; i++) {
-            units = order[i] ~ /messages/ ? 1000000 : 8388608
+            units = order[i] ~ /messages|records/ ? 1000000 : 8388608
             if (wanted == "count") printf "%-32s %10.1f\n", order[i], best[order[i]] / int(units / 100)
             else printf "%-32s %10.1f ms %12.0f a second\n", order[i], best[order[i]] / 1000, units * 1000000 / best[order[i]]
         }

@@ -424,3 +424,16 @@ static int get_coer(struct input *in, struct vehicle *v)
             return 0;
     return !v->has_load || oer_get_load(in, v);
 }
+
+/* Messages in UPER, one after another, until there are a number of them or of octets. */
+static int make_messages(struct buffer *b, size_t count, size_t octets)
+{
+    struct vehicle v;
+    uint64_t state = 1;
+    while (count-- > 0 && b->count < octets) {
+        make_vehicle(&v, &state);
+        if (!put_uper(b, &v))
+            return 0;
+    }
+    return 1;
+}
