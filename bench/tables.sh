@@ -8,6 +8,8 @@ echo "## vehicle"
 echo
 "$here/vehicle/run.sh" time "$work"
 echo
+"$here/vehicle/stream.sh" "$work"
+echo
 echo "## bits"
 echo
 "$here/run.sh" "$work"
