@@ -1,3 +1,3 @@
 mod Checked
-mod Routed
+mod Digits
 mod Typed

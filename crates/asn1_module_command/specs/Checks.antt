@@ -7,6 +7,7 @@ use Rattle.asn1_relay_command.specs.declared.fault.Fault.TheVariants as fault
 use Rattle.asn1_relay_core.specs.Ends.{BeginsToAppend}
 use Rattle.asn1_relay_core.specs.Recoding.{answered}
 use Rattle.asn1_relay_core.specs.declared.codec.Codec.{Codec}
+use Rattle.asn1_module_command.specs.Digits.{IsReadIn}
 use Rattle.asn1_module_command.specs.declared.errors.CommandError.{CommandError}
 use Rattle.asn1_module_command.specs.declared.errors.CommandError.TheVariants as error
 use Rattle.asn1_module_order.specs.declared.order.Check.{Check}
@@ -51,12 +52,6 @@ StopsSaying s rules message held held' (error.Fault fault.WriteFailed) =
     IsCanonical s rules message × BeginsToAppend held held' canonical_line
 StopsSaying s rules message held held' e = IsNotCanonical s rules message e × Keeps held held'
 
--- everything was read, which is a canonical message, and that was said
-pub record IsChecked (s : Schema) (rules : Codec) (unread unread' held held' : Known) : Type 0 where
-  pub message : List ℕ
-  pub read : IsAllRead unread unread' message
-  pub said : IsSaid s rules message held held'
-
 -- everything was read, and then an error stops this
 pub record StopsAfterAll (s : Schema) (rules : Codec) (unread unread' held held' : Known) (e : CommandError)
     : Type 0 where
@@ -70,11 +65,14 @@ IsNotChecked s rules unread unread' held held' (error.Fault fault.ReadFailed) = 
 IsNotChecked s rules unread unread' held held' (error.Fault fault.OutOfMemory) = Keeps held held'
 IsNotChecked s rules unread unread' held held' e = StopsAfterAll s rules unread unread' held held' e
 
--- what was requested is done; nothing is said of hexadecimal digits
-abbrev pub HasChecked : Check → Schema → Known → Known → Known → Known → Type 0
-HasChecked c s unread unread' held held' = c.is_hexadecimal ≡ false → IsChecked s c.rules unread unread' held held'
+-- what was requested is done: everything was read, as octets or as their digits, which is a canonical message, and that
+-- was said
+pub record HasChecked (c : Check) (s : Schema) (unread unread' held held' : Known) : Type 0 where
+  pub message : List ℕ
+  pub read : IsReadIn c.is_hexadecimal unread unread' message
+  pub said : IsSaid s c.rules message held held'
 
--- an error stops this
+-- an error stops this; nothing is said of hexadecimal digits
 abbrev pub StopsChecking : Check → Schema → Known → Known → Known → Known → CommandError → Type 0
 StopsChecking c s unread unread' held held' e =
     c.is_hexadecimal ≡ false → IsNotChecked s c.rules unread unread' held held' e

@@ -1,19 +1,22 @@
 -- What a run over a type of a table does with its reader and its writer, whose octets are those that the one will still
 -- return and the other holds, if they are known.
-use Rattle.std.specs.Prelude.{◌≡◌, ◌⊎◌, ℕ, List, Option, Some, None, IsSome, false, true}
+use Rattle.std.specs.Prelude.{◌≡◌, ◌⊎◌, ℕ, List, Bool, Option, Some, None, IsSome, false, true}
 use Rattle.asn1_model.specs.Lawful.{is_of}
 use Rattle.asn1_model.specs.Schema.{Schema}
 use Rattle.asn1_model.specs.Value.{Value}
 use Rattle.asn1_model.specs.Versions.{Extends}
 use Rattle.asn1_notation_types.specs.declared.tables.Table.{Table}
-use Rattle.asn1_relay_command.specs.Runs.{DoesOnceAs, DoesRouteAs, DoesStreamAs, HasWritten, IsRunFaultAs, IsUntouched}
+use Rattle.asn1_relay_command.specs.Runs.{ComesAs, DoesOnceAs, DoesStreamAs, HasWritten, IsRunFaultAs, IsUntouched}
 use Rattle.asn1_relay_command.specs.Runs.{Known, StopsOnceAs, StopsRouteAs}
 use Rattle.asn1_relay_command.specs.declared.fault.Fault.{Fault}
 use Rattle.asn1_relay_core.specs.Coding.{IsWritten, rules_of}
+use Rattle.asn1_relay_core.specs.Routing.{arrived}
 use Rattle.asn1_relay_core.specs.declared.codec.Codec.{Codec}
+use Rattle.asn1_relay_core.specs.declared.hop.Hop.{Hop}
 use Rattle.asn1_schema_laws.specs.Tables.{IsValue}
 use Rattle.asn1_table_nodes.specs.Meaning.{type_at}
 use Rattle.asn1_module_command.specs.Checks.{HasChecked, StopsChecking}
+use Rattle.asn1_module_command.specs.Digits.{IsReadIn, IsWrittenIn, TakesDigits, WritesDigits}
 use Rattle.asn1_module_command.specs.declared.errors.CommandError.{CommandError}
 use Rattle.asn1_module_command.specs.declared.errors.CommandError.TheVariants as error
 use Rattle.asn1_module_command.specs.declared.errors.Stop.{Stop}
@@ -92,23 +95,49 @@ StopsIn x s (form.Rules to) (form.Rules from) unread unread' held held' e =
     StopsBy x s from to unread unread' held held' e
 StopsIn x s (form.Rules to) form.Json unread unread' held held' e = Unit {0}
 
--- what was requested is done; nothing is said of hexadecimal digits
+-- the same, with the digits of octets written in their place
+abbrev pub LeavesDigits : Extent → Schema → Form → Form → Known → Known → Known → Known → Type 0
+LeavesDigits x s form.Json from unread unread' held held' = Unit {0}
+LeavesDigits x s (form.Rules to) from unread unread' held held' =
+    WritesDigits (DoesIn x s (form.Rules to) from) unread unread' held held'
+
+-- the same, with the digits of octets read in their place, too
+abbrev pub DoesInDigits : Extent → Schema → Form → Form → Known → Known → Known → Known → Type 0
+DoesInDigits x s to form.Json unread unread' held held' = LeavesDigits x s to form.Json unread unread' held held'
+DoesInDigits x s to (form.Rules from) unread unread' held held' =
+    TakesDigits (LeavesDigits x s to (form.Rules from)) unread unread' held held'
+
+-- with octets, or with their digits in their place
+abbrev pub TranslatesIn : Bool → Extent → Schema → Form → Form → Known → Known → Known → Known → Type 0
+TranslatesIn false x s to from unread unread' held held' = DoesIn x s to from unread unread' held held'
+TranslatesIn true x s to from unread unread' held held' = DoesInDigits x s to from unread unread' held held'
+
+-- what was requested is done
 abbrev pub HasTranslated : Translation → Schema → Known → Known → Known → Known → Type 0
 HasTranslated t s unread unread' held held' =
-    t.is_hexadecimal ≡ false → DoesIn t.extent s t.to t.from unread unread' held held'
+    TranslatesIn t.is_hexadecimal t.extent s t.to t.from unread unread' held held'
 
--- an error stops this
+-- an error stops this; nothing is said of hexadecimal digits
 abbrev pub StopsTranslating : Translation → Schema → Known → Known → Known → Known → CommandError → Type 0
 StopsTranslating t s unread unread' held held' e =
     t.is_hexadecimal ≡ false → StopsIn t.extent s t.to t.from unread unread' held held' e
 
 -- ---- routes
 
--- the second type is a newer version of the first (X.680 52), and with these everything was read, sent from hop to hop,
--- and what arrived was written; nothing is said of hexadecimal digits
+-- everything was read, as octets or as their digits, and sent from hop to hop, with two versions of a type, and what
+-- arrived was written likewise
+pub record PassesIn (in_digits : Bool) (old new : Schema) (from : Codec) (hops : List Hop)
+    (unread unread' held held' : Known) : Type 0 where
+  pub message : List ℕ
+  pub read : IsReadIn in_digits unread unread' message
+  pub octets : List ℕ
+  pub arrives : ComesAs old new from hops message (arrived octets)
+  pub wrote : IsWrittenIn in_digits held held' octets
+
+-- the second type is a newer version of the first (X.680 52), and what was requested is done with these
 pub record HasRouted (r : Route) (old new : Schema) (unread unread' held held' : Known) : Type 0 where
   pub newer : Extends old new
-  pub done : r.is_hexadecimal ≡ false → DoesRouteAs old new r.from r.hops.items unread unread' held held'
+  pub done : PassesIn r.is_hexadecimal old new r.from r.hops.items unread unread' held held'
 
 -- an error stops this, which names such a fault
 pub record StopsBetween (r : Route) (old new : Schema) (unread unread' held held' : Known) (e : CommandError)
@@ -117,7 +146,7 @@ pub record StopsBetween (r : Route) (old new : Schema) (unread unread' held held
   pub names : fault_in e ≡ Some fault
   pub stops : StopsRouteAs old new r.from r.hops.items unread unread' held held' fault
 
--- the second type is a newer version of the first, and an error stops this
+-- the second type is a newer version of the first, and an error stops this; nothing is said of hexadecimal digits
 pub record StopsRouting (r : Route) (old new : Schema) (unread unread' held held' : Known) (e : CommandError)
     : Type 0 where
   pub newer : Extends old new

@@ -5,11 +5,11 @@ ghost use Rattle.asn1_module_command.specs.Checks.{StopsSaying, difference_in};
 ghost use Rattle.asn1_module_command.specs.Runs.{schema_in};
 
 use crate::errors::CommandError;
-use crate::hexadecimal::octets_of;
+use crate::hexadecimal::read_message;
 use crate::values::Typed;
 use asn1_module_order::Check;
 use asn1_notation_types::Table;
-use asn1_relay_command::{read_all, translate_octets, write_all};
+use asn1_relay_command::{translate_octets, write_all};
 use asn1_relay_core::Codec;
 use asn1_table_locating::{Located, first_difference};
 use asn1_table_relay::TableType;
@@ -35,11 +35,7 @@ pub fn check_message<R: Read, W: Write>(
         (R.remaining input.old) (R.remaining input.new) (W.contents output.old) (W.contents output.new)) }
 {
     let typed = Typed { alloc, table };
-    let message = read_all(alloc, input)?;
-    if check.is_hexadecimal {
-        let octets = octets_of(alloc, message.as_slice())?;
-        return say_canonical(typed, check.rules, octets.as_slice(), output);
-    }
+    let message = read_message(alloc, check.is_hexadecimal, input)?;
     say_canonical(typed, check.rules, message.as_slice(), output)
 }
 

@@ -1,21 +1,48 @@
 //! Octets as hexadecimal text.
+ghost use Rattle.std.specs.Prelude.{◌≡◌, ◌⊎◌, IfErr, IfOk, OnOk, false};
+ghost use Rattle.std.specs.Io.KnownBytes.{Appends};
+ghost use Rattle.asn1_module_command.specs.Digits.{AreDigitsOf, IsReadIn, digit_line};
+
 use crate::errors::CommandError;
-use asn1_relay_command::Fault;
+use asn1_relay_command::{Fault, read_all, write_all};
 use hex::FromHexError;
 use std::alloc::{AllocError, Global};
+use std::io::{Read, Write};
+
+/// All of the input: octets, or those of a text of their hexadecimal digits.
+///
+/// # Errors
+///
+/// Those of `read_all` and `octets_of`.
+pub(crate) fn read_message<R: Read>(
+    alloc: Global,
+    is_hexadecimal: bool,
+    input: &mut R,
+) -> Result<Vec<u8>, CommandError>
+    ensures ok { IfOk result (λ v. IsReadIn is_hexadecimal (R.remaining input.old) (R.remaining input.new) v.items) }
+    ensures err { IfErr result (λ e. is_hexadecimal ≡ false → (e ≡ CommandError.Fault Fault.ReadFailed)
+        ⊎ (e ≡ CommandError.Fault Fault.OutOfMemory)) }
+{
+    let text = read_all(alloc, input)?;
+    if is_hexadecimal {
+        return octets_of(alloc, text.as_slice());
+    }
+    Ok(text)
+}
 
 /// The octets of a text of pairs of hexadecimal digits, with spaces and ends of lines anywhere.
 ///
 /// # Errors
 ///
 /// `NotHexadecimal` for any other text.
-pub(crate) fn octets_of(alloc: Global, text: &[u8]) -> Result<Vec<u8>, CommandError> {
-    let mut digits = Vec::new(alloc);
-    for character in text {
-        if !character.is_ascii_whitespace() {
-            digits.push(*character)?;
-        }
-    }
+fn octets_of(alloc: Global, text: &[u8]) -> Result<Vec<u8>, CommandError>
+    ensures { IfOk result (λ octets. AreDigitsOf text.now octets.items) }
+{
+    let digits: Vec<u8> = text
+        .iter()
+        .copied()
+        .filter(|character| !character.is_ascii_whitespace())
+        .collect(alloc)?;
     match hex::decode(alloc, digits) {
         Ok(octets) => Ok(octets),
         Err(FromHexError::OutOfMemory) => Err(CommandError::Fault(Fault::OutOfMemory)),
@@ -23,13 +50,26 @@ pub(crate) fn octets_of(alloc: Global, text: &[u8]) -> Result<Vec<u8>, CommandEr
     }
 }
 
+/// Writes a line of the octets as hexadecimal digits.
+pub(crate) fn write_digits<W: Write>(
+    alloc: Global,
+    octets: &[u8],
+    output: &mut W,
+) -> Result<(), CommandError>
+    ensures { OnOk result (Appends (W.contents output.old) (W.contents output.new) (digit_line octets.now)) }
+{
+    let line = line_of(alloc, octets)?;
+    write_all(line.as_slice(), output)?;
+    Ok(())
+}
+
 /// A line of the octets as hexadecimal digits.
-pub(crate) fn line_of(alloc: Global, octets: &[u8]) -> Result<Vec<u8>, AllocError> {
-    let mut copy = Vec::new(alloc);
-    copy.extend_from_slice(octets)?;
+fn line_of(alloc: Global, octets: &[u8]) -> Result<Vec<u8>, AllocError>
+    ensures { IfOk result (λ line. line.items ≡ digit_line octets.now) }
+{
+    let copy = Vec::from_slice(alloc, octets)?;
     let text = hex::encode_upper(alloc, copy)?;
-    let mut line = Vec::new(alloc);
-    line.extend_from_slice(text.as_bytes())?;
+    let mut line = Vec::from_slice(alloc, text.as_bytes())?;
     line.push(b'\n')?;
     Ok(line)
 }

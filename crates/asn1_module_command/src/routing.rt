@@ -1,13 +1,13 @@
 //! A message passes from hop to hop, each with the older or the newer version of its type.
-ghost use Rattle.std.specs.Prelude.{◌≡◌, ◌≢◌, [], IfErr, IfOk, MatchResult};
+ghost use Rattle.std.specs.Prelude.{◌≡◌, ◌≢◌, [], IfErr, IfOk, MatchResult, OnOk, true};
 ghost use Rattle.asn1_relay_command.specs.Runs.{ComesAs, DoesRouteAs, IsTurnedBackAs, StopsRouteAs};
 ghost use Rattle.asn1_relay_core.specs.Routing.{arrived};
 ghost use Rattle.asn1_table_relay.specs.Schemas.{IsNewer, newer_of, older_of};
-ghost use Rattle.asn1_module_command.specs.Runs.{HasRouted, StopsRouting, StopsSending, schema_in};
+ghost use Rattle.asn1_module_command.specs.Runs.{HasRouted, PassesIn, StopsRouting, StopsSending, schema_in};
 ghost use Rattle.asn1_module_order.specs.Errors.{IsOfVersions};
 
 use crate::errors::{CommandError, Stop};
-use crate::hexadecimal::{line_of, octets_of};
+use crate::hexadecimal::{read_message, write_digits};
 use asn1_module_order::{ModuleError, Route, not_extended};
 use asn1_notation_types::Table;
 use asn1_relay_command::{Fault, read_all, write_all};
@@ -101,13 +101,12 @@ fn send_digits<R: Read, W: Write>(
 ) -> Result<(), CommandError>
     requires some { hops.now ≢ [] }
     requires newer { IsNewer versions.now }
+    ensures { OnOk result (PassesIn true (older_of versions.now 128) (newer_of versions.now 128) from hops.now
+        (R.remaining input.old) (R.remaining input.new) (W.contents output.old) (W.contents output.new)) }
 {
-    let text = read_all(alloc, input)?;
-    let message = octets_of(alloc, text.as_slice())?;
+    let message = read_message(alloc, true, input)?;
     let answer = sent(alloc, versions, from, hops, message.as_slice())?;
-    let line = line_of(alloc, answer.as_slice())?;
-    write_all(line.as_slice(), output)?;
-    Ok(())
+    write_digits(alloc, answer.as_slice(), output)
 }
 
 /// Sends a message of octets. Nothing is written before it has arrived.

@@ -1,11 +1,12 @@
 //! Messages of a type of a table are translated from one form to another.
 ghost use Rattle.std.specs.Prelude.{◌≤◌, MatchResult, OnOk};
 ghost use Rattle.asn1_module_order.specs.Orders.{IsBounded};
-ghost use Rattle.asn1_module_command.specs.Runs.{Does, Encodes, HasTranslated, StopsBy, StopsTranslating};
-ghost use Rattle.asn1_module_command.specs.Runs.{WritesEncoding, schema_in};
+ghost use Rattle.asn1_module_command.specs.Digits.{TakesDigits, WritesDigits};
+ghost use Rattle.asn1_module_command.specs.Runs.{Does, DoesIn, Encodes, HasTranslated, LeavesDigits, StopsBy, StopsIn};
+ghost use Rattle.asn1_module_command.specs.Runs.{StopsTranslating, WritesEncoding, schema_in};
 
 use crate::errors::CommandError;
-use crate::hexadecimal::{line_of, octets_of};
+use crate::hexadecimal::{read_message, write_digits};
 use crate::joined::translate_joined;
 use crate::values::Typed;
 use asn1_module_order::{Extent, Form, Translation};
@@ -35,11 +36,25 @@ pub fn translate<R: Read, W: Write>(
     if !translation.is_hexadecimal {
         return translate_input(typed, translation, input, output);
     }
-    if translation.from == Form::Json {
-        return translate_to_digits(typed, translation, input, output);
+    match translation.from {
+        Form::Json => translate_to_digits(typed, translation, input, output),
+        Form::Rules(_) => translate_digits(typed, translation, input, output),
     }
-    let text = read_all(alloc, input)?;
-    let octets = octets_of(alloc, text.as_slice())?;
+}
+
+/// Translates what was requested of octets that are read and written as hexadecimal digits.
+fn translate_digits<R: Read, W: Write>(
+    typed: Typed<'_>,
+    translation: Translation,
+    input: &mut R,
+    output: &mut W,
+) -> Result<(), CommandError>
+    requires { IsBounded translation.extent }
+    ensures { OnOk result (TakesDigits
+        (LeavesDigits translation.extent (schema_in typed.entry.table.now) translation.to translation.from)
+        (R.remaining input.old) (R.remaining input.new) (W.contents output.old) (W.contents output.new)) }
+{
+    let octets = read_message(typed.alloc, true, input)?;
     translate_to_digits(typed, translation, &mut octets.as_slice(), output)
 }
 
@@ -51,17 +66,38 @@ fn translate_to_digits<R: Read, W: Write>(
     output: &mut W,
 ) -> Result<(), CommandError>
     requires { IsBounded translation.extent }
+    ensures { OnOk result
+        (LeavesDigits translation.extent (schema_in typed.entry.table.now) translation.to translation.from
+        (R.remaining input.old) (R.remaining input.new) (W.contents output.old) (W.contents output.new)) }
 {
-    if translation.to == Form::Json {
-        return translate_input(typed, translation, input, output);
+    match translation.to {
+        Form::Json => translate_input(typed, translation, input, output),
+        Form::Rules(_) => encode_to_digits(typed, translation, input, output),
     }
+}
+
+/// Translates to octets, and writes them as hexadecimal digits, also those of messages before an error.
+fn encode_to_digits<R: Read, W: Write>(
+    typed: Typed<'_>,
+    translation: Translation,
+    input: &mut R,
+    output: &mut W,
+) -> Result<(), CommandError>
+    requires { IsBounded translation.extent }
+    ensures { OnOk result (WritesDigits
+        (DoesIn translation.extent (schema_in typed.entry.table.now) translation.to translation.from)
+        (R.remaining input.old) (R.remaining input.new) (W.contents output.old) (W.contents output.new)) }
+{
     let mut octets = Vec::new(typed.alloc);
-    let translated = translate_input(typed, translation, input, &mut octets);
-    if translated.is_ok() || !octets.is_empty() {
-        let line = line_of(typed.alloc, octets.as_slice())?;
-        write_all(line.as_slice(), output)?;
+    match translate_input(typed, translation, input, &mut octets) {
+        Ok(()) => write_digits(typed.alloc, octets.as_slice(), output),
+        Err(error) => {
+            if !octets.is_empty() {
+                write_digits(typed.alloc, octets.as_slice(), output)?;
+            }
+            Err(error)
+        }
     }
-    translated
 }
 
 /// Translates what was requested.
@@ -73,9 +109,9 @@ fn translate_input<R: Read, W: Write>(
 ) -> Result<(), CommandError>
     requires { IsBounded translation.extent }
     ensures { MatchResult result
-        (λ _. HasTranslated translation (schema_in typed.entry.table.now)
+        (λ _. DoesIn translation.extent (schema_in typed.entry.table.now) translation.to translation.from
         (R.remaining input.old) (R.remaining input.new) (W.contents output.old) (W.contents output.new))
-        (StopsTranslating translation (schema_in typed.entry.table.now)
+        (StopsIn translation.extent (schema_in typed.entry.table.now) translation.to translation.from
         (R.remaining input.old) (R.remaining input.new) (W.contents output.old) (W.contents output.new)) }
 {
     match translation.to {
