@@ -50,11 +50,11 @@ impl<F: Drop> Stack<F> {
     {
         if self.innermost.is_none() {
             // There is no previous scope to drop.
-            mem::forget(self.innermost.replace(scope));
+            mem::forget(mem::replace(&mut self.innermost, Some(scope)));
             return Ok(());
         }
         self.outer.reserve(1)?;
-        if let Some(around) = self.innermost.replace(scope) {
+        if let Some(around) = mem::replace(&mut self.innermost, Some(scope)) {
             self.outer.push_reserved(around);
         }
         Ok(())
