@@ -1,5 +1,4 @@
 //! The decoder of PER, which finds the records of a value in bits.
-ghost use Rattle.std.specs.Cow.{cow_slice_items, IsBorrowedSlice};
 ghost use Rattle.std.specs.Prelude.{◌≡◌, ◌+◌, ◌-◌, ◌/◌, ◌<◌, ◌^◌, [], ◌∷◌, true, Some, None, length, take, min};
 ghost use Rattle.std.specs.Prelude.{OnOk, OnErr, IfErr, IfOk};
 ghost use Rattle.per_codec_held_laws.specs.Held.{Held, Finds, kind_of};
@@ -13,9 +12,10 @@ ghost use Rattle.asn1_schema_constraints.specs.Bounds.{counts_of, members_of};
 ghost use Rattle.asn1_schema_decode.specs.Reads.{NoRecord};
 ghost use Rattle.per_codec_held_laws.specs.Few.{TooFewHeld, OwesNoMore, lacks, told};
 ghost use Rattle.per_codec_decoder.specs.Missing.{StillTooShort};
+ghost use Rattle.per_codec_reading.specs.Octets.{octets_of, AreLent, AreUnowned};
 ghost use Rattle.per_codec_reading.specs.Units.{counted_units};
 ghost use Rattle.asn1_schema_laws.specs.Records.{octets, asks_octets, further, asks_further};
-ghost use Rattle.asn1_schema_constraints.specs.Terms.{size_of};
+ghost use Rattle.asn1_schema_constraints.specs.Terms.{size_of, sizes_of};
 ghost use Rattle.asn1_model.specs.Numbers.{octet_bits, is_count_within};
 ghost use Rattle.asn1_values_bits.specs.BitStr.{bits_of};
 ghost use Rattle.per_codec_laws.specs.Takes.{alternative, Front, completion};
@@ -23,6 +23,7 @@ ghost use Rattle.per_codec_reading.specs.Fronts.{freedoms, is_aligned, IsFresh};
 ghost use Rattle.asn1_schema_errors.specs.Calls.{DecoderCall, OneLevelLess, SameLevel};
 
 use crate::missing::{missing_octets_at, missing_of_string_at};
+use crate::octets::StringOctets;
 use crate::options::DecoderOptions;
 use crate::{Additions, Enclosing, Ending, Frame, Scopes, read_members, read_preamble};
 use asn1_schema_constraints::{Bounded, Constraints, Sizes};
@@ -43,7 +44,6 @@ use per_codec_reading_values::{
     read_item, skip_unknown,
 };
 use std::alloc::Global;
-use std::borrow::CowSlice;
 use std::marker::Model;
 use std::mem::{forget, replace};
 
@@ -179,20 +179,20 @@ impl<'input> Decoder<'input> {
         alloc: Global,
         sizes: Sizes,
         held: Bounded<usize>,
-    ) -> Result<CowSlice<'input, u8>, DecodeError>
+    ) -> Result<StringOctets<'input>, DecodeError>
         ensures ok { IfOk result (λ x. Finds self.old
-            (octets (size_of sizes) (counts_of held) (cow_slice_items x)) self.new) }
-        ensures held { IfOk result (λ x. is_count_within (counts_of held) (length (cow_slice_items x)) ≡ true) }
+            (octets (size_of sizes) (counts_of held) (octets_of x.octets)) self.new) }
+        ensures held { IfOk result (λ x. is_count_within (counts_of held) (length (octets_of x.octets)) ≡ true) }
         ensures lent { IfOk result (λ x. Lends self.old
-            (octets (size_of sizes) (counts_of held) (cow_slice_items x)) self.new
-            → IsBorrowedSlice x) }
+            (octets (size_of sizes) (counts_of held) (octets_of x.octets)) self.new
+            → AreLent x.octets) }
         ensures only { IfErr result (NoRecord Finds TooFewHeld
             (asks_octets (size_of sizes) (counts_of held)) self.old self.new) }
         ensures call { DecoderCall HasFailed (SameLevel (λ s. s.levels)) self.old self.new result }
     {
         go_on(self.failed.is_some())?;
         match self.place.take_octet_string(alloc, self.rules, sizes, held) {
-            Ok(octets) => Ok(octets),
+            Ok(octets) => Ok(StringOctets { octets }),
             Err(error) => {
                 let missing = missing_of_string_at(&self.place, self.rules, &sizes);
                 Err(self.lack_bits(error, missing))
@@ -435,7 +435,7 @@ impl<'input> asn1_schema_decode::Decoder for Decoder<'input> {
     ghost use Rattle.per_codec_held_laws.specs.Few.{TooFewMembersHeld};
     ghost use Rattle.per_codec_held_laws.proofs.Carried.{at_once, held_records, held_values, held_members};
 
-    type Octets = CowSlice<'input, u8>;
+    type Octets = StringOctets<'input>;
 
     ghost step = { Finds };
 
@@ -536,7 +536,20 @@ impl<'input> asn1_schema_decode::Decoder for Decoder<'input> {
         _tag: Tag,
         constraints: &Constraints,
         held: Bounded<usize>,
-    ) -> Result<CowSlice<'input, u8>, DecodeError> {
+    ) -> Result<StringOctets<'input>, DecodeError>
+        ensures ok { IfOk result (λ x. Finds self.old
+            (octets (sizes_of constraints.now.size) (counts_of held) (octets_of x.octets)) self.new) }
+        ensures held { IfOk result (λ x. is_count_within (counts_of held) (length (octets_of x.octets)) ≡ true) }
+        ensures lent { IfOk result (λ x. Lends self.old
+            (octets (sizes_of constraints.now.size) (counts_of held) (octets_of x.octets)) self.new
+            → AreUnowned x.octets) }
+        ensures only { IfErr result (NoRecord Finds TooFewHeld
+            (asks_octets (sizes_of constraints.now.size) (counts_of held)) self.old self.new) }
+        ensures call { DecoderCall HasFailed (SameLevel (λ s. s.levels)) self.old self.new result }
+        ensures borrowed { IfOk result (λ x. Lends self.old
+            (octets (sizes_of constraints.now.size) (counts_of held) (octets_of x.octets)) self.new
+            → AreLent x.octets) }
+    {
         self.find_octets(alloc, constraints.sizes(), held)
     }
 

@@ -7,6 +7,7 @@ pub mod decoder;
 mod frames;
 mod members;
 mod missing;
+pub mod octets;
 pub mod options;
 mod preamble;
 
@@ -14,5 +15,6 @@ pub use additions::Additions;
 pub use decoder::Decoder;
 pub use frames::{Enclosing, Ending, Frame, Scopes};
 pub use members::{DueMembers, read_members};
+pub use octets::StringOctets;
 pub use options::DecoderOptions;
 pub use preamble::read_preamble;

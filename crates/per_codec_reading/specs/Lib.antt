@@ -5,3 +5,4 @@ pub mod Runs
 pub mod Headings
 pub mod Closed
 pub mod Unread
+pub mod Octets

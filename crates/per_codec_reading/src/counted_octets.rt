@@ -1,6 +1,5 @@
 //! Octets after a length determinant (X.691 11.9).
-ghost use Rattle.std.specs.Prelude.{◌≡◌, ◌%◌, true, length, IfOk, IfErr, IsOkAnd, Some};
-ghost use Rattle.std.specs.Cow.{cow_slice_items, IsBorrowedSlice};
+ghost use Rattle.std.specs.Prelude.{◌≡◌, ◌%◌, ◌≤◌, true, length, IfOk, IfErr, IsOkAnd, Some};
 ghost use Rattle.asn1_model.specs.Numbers.{octet_bits};
 ghost use Rattle.asn1_model.specs.Per as Per;
 ghost use Rattle.asn1_model.specs.Strings.{is_octet};
@@ -9,22 +8,23 @@ ghost use Rattle.asn1_values_bits.specs.BitStr.{bits_of, offset_of};
 ghost use Rattle.per_codec_laws.specs.Takes.{Front};
 ghost use Rattle.per_codec_reading.specs.Fronts.{freedoms, Misses};
 ghost use Rattle.per_codec_reading.specs.Fronts as fronts;
-ghost use Rattle.per_codec_reading.specs.Runs.{bits_in, storage_of};
+ghost use Rattle.per_codec_reading.specs.Octets.{octets_of, AreLent, AreUnowned};
+ghost use Rattle.per_codec_reading.specs.Runs.{bits_in, storage_of, IsLent};
 
+use crate::input_octets::{FEW, FewOctets, InputOctets};
 use crate::runs::{Run, RunBits, read_counted};
 use crate::{Cursor, PackedRules};
 use asn1_schema_errors::DecodeError;
 use asn1_values_bits::{BitBuffer, BitStr};
 use std::alloc::{AllocError, Global};
-use std::borrow::CowSlice;
 
 /// The octets, borrowed.
-fn borrowed(octets: &[u8]) -> CowSlice<'_, u8>
-    ensures octets { cow_slice_items result ≡ octets.now }
+fn borrowed(octets: &[u8]) -> InputOctets<'_>
+    ensures octets { octets_of result ≡ octets.now }
     ensures small { list_all is_octet octets.now ≡ true }
-    ensures lent { IsBorrowedSlice result }
+    ensures lent { AreLent result }
 {
-    CowSlice::Borrowed(octets)
+    InputOctets::Lent(octets)
 }
 
 /// A copy of the bits, which are whole octets. Out of line, where the number of octets is any, so that they are filled
@@ -41,22 +41,27 @@ fn copied_bits(alloc: Global, bits: BitStr<'_>) -> Result<BitBuffer, AllocError>
     Ok(BitBuffer::from_vec(octets))
 }
 
-/// The octets in bits of the input. Bits that begin at an octet of the input are borrowed, without an allocation.
+/// The octets in bits of the input. Bits that begin at an octet of the input are borrowed; of others at most 32 octets
+/// are copied into the answer. Neither allocates.
 #[inline(always)]
 fn lent_octets<'input>(
     alloc: Global,
     bits: BitStr<'input>,
-) -> Result<CowSlice<'input, u8>, AllocError>
+) -> Result<InputOctets<'input>, AllocError>
     requires { length (bits_of bits) % 8 ≡ 0 }
-    ensures octets { IfOk result (λ octets. octet_bits (cow_slice_items octets) ≡ bits_of bits.entry) }
-    ensures small { IfOk result (λ octets. list_all is_octet (cow_slice_items octets) ≡ true) }
-    ensures lent { offset_of bits.entry ≡ 0 → IsOkAnd result IsBorrowedSlice }
+    ensures octets { IfOk result (λ octets. octet_bits (octets_of octets) ≡ bits_of bits.entry) }
+    ensures small { IfOk result (λ octets. list_all is_octet (octets_of octets) ≡ true) }
+    ensures lent { offset_of bits.entry ≡ 0 → IsOkAnd result AreLent }
+    ensures few { length (bits_of bits.entry) ≤ 256 → IsOkAnd result AreUnowned }
 {
     if let Some(octets) = bits.aligned_octets() {
         return Ok(borrowed(octets));
     }
+    if bits.len() <= FEW * 8 {
+        return Ok(InputOctets::Few(FewOctets::copied(bits)));
+    }
     let copy = copied_bits(alloc, bits)?;
-    Ok(CowSlice::Owned(joined_octets(copy)))
+    Ok(InputOctets::Owned(joined_octets(copy)))
 }
 
 /// The octets in joined bits.
@@ -69,27 +74,28 @@ fn joined_octets(bits: BitBuffer) -> Vec<u8>
 }
 
 impl<'input> Run<'input> {
-    /// The units as octets. They are borrowed, without an allocation, if they are one piece of the input that begins
-    /// at an octet.
+    /// The units as octets. In one piece of the input they are borrowed if this begins at an octet, and of others at
+    /// most 32 octets are copied into the answer. Neither allocates.
     #[inline(always)]
-    pub fn into_octets(self, alloc: Global) -> Result<CowSlice<'input, u8>, AllocError>
+    pub fn into_octets(self, alloc: Global) -> Result<InputOctets<'input>, AllocError>
         requires { length (bits_in self.bits) % 8 ≡ 0 }
-        ensures octets { IfOk result (λ octets. octet_bits (cow_slice_items octets) ≡ bits_in self.entry.bits) }
-        ensures small { IfOk result (λ octets. list_all is_octet (cow_slice_items octets) ≡ true) }
-        ensures lent { storage_of self.entry.bits ≡ Some 0 → IsOkAnd result IsBorrowedSlice }
+        ensures octets { IfOk result (λ octets. octet_bits (octets_of octets) ≡ bits_in self.entry.bits) }
+        ensures small { IfOk result (λ octets. list_all is_octet (octets_of octets) ≡ true) }
+        ensures lent { storage_of self.entry.bits ≡ Some 0 → IsOkAnd result AreLent }
+        ensures few { IsLent self.entry.bits → length (bits_in self.entry.bits) ≤ 256 → IsOkAnd result AreUnowned }
     {
         match self.bits {
             RunBits::Lent(bits) => {
                 let octets = lent_octets(alloc, bits)?;
                 Ok(octets)
             }
-            RunBits::Joined(bits) => Ok(CowSlice::Owned(joined_octets(bits))),
+            RunBits::Joined(bits) => Ok(InputOctets::Owned(joined_octets(bits))),
         }
     }
 }
 
 /// Reads octets after a length determinant (X.691 11.9). Up to 16383 octets in one piece that begins at an octet of
-/// the input are borrowed, without an allocation.
+/// the input are borrowed, and up to 32 others are copied into the answer. Neither allocates.
 ///
 /// # Errors
 ///
@@ -100,9 +106,9 @@ pub fn read_counted_octets<'input>(
     alloc: Global,
     cursor: &mut Cursor<'input>,
     rules: PackedRules,
-) -> Result<CowSlice<'input, u8>, DecodeError>
+) -> Result<InputOctets<'input>, DecodeError>
     ensures ok { IfOk result (λ octets. Front (freedoms rules)
-        (Per.counted_octets (fronts.is_aligned rules) (cow_slice_items octets)) cursor.old cursor.new) }
+        (Per.counted_octets (fronts.is_aligned rules) (octets_of octets)) cursor.old cursor.new) }
     ensures only { IfErr result (Misses (freedoms rules)
         (Per.counted_octets (fronts.is_aligned rules)) cursor.old) }
 {

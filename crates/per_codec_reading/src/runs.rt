@@ -1,6 +1,5 @@
 //! Units of one width after a length determinant, in one piece or in fragments (X.691 11.9).
 ghost use Rattle.std.specs.Prelude.{◌≡◌, ◌+◌, ◌*◌, ◌<◌, ◌≤◌, ◌^◌, ◌++◌, IfOk, IfErr};
-ghost use Rattle.std.specs.Cow.{cow_slice_items};
 ghost use Rattle.asn1_model.specs.Numbers.{octet_bits};
 ghost use Rattle.asn1_model.specs.Per as Per;
 ghost use Rattle.asn1_values_bits.specs.BitStr.{bits_of, offset_of};

@@ -1,6 +1,5 @@
 //! Character strings (X.691 30).
 ghost use Rattle.std.specs.Prelude.{◌≡◌, ◌*◌, ◌≤◌, ◌⊎◌, true, false, length, IfOk, OnOk, IfErr};
-ghost use Rattle.std.specs.Cow.{cow_slice_items};
 ghost use Rattle.asn1_model.specs.Strings.{is_of_octets as holds_octets};
 ghost use Rattle.asn1_values_alphabets.specs.Permitted.{permits_all};
 ghost use Rattle.per_codec_alphabets.specs.Octets.{is_encoded_as_octets as as_octets};

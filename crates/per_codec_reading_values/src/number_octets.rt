@@ -1,22 +1,21 @@
 //! Numbers in octets after a length determinant (X.691 11.7 and 11.8).
 ghost use Rattle.asn1_model.specs.Schema.{wide_range};
 ghost use Rattle.std.specs.Prelude.{◌<◌, ◌≡◌, ◌||◌, not, is_some, length, IfOk, IfErr, IfSome, pos};
-ghost use Rattle.std.specs.Cow.{cow_slice_items};
 ghost use Rattle.asn1_model.specs.Numbers.{is_within};
 ghost use Rattle.asn1_model.specs.Per as Per;
 ghost use Rattle.asn1_values_natives.specs.Octets.{signed_number, unsigned_number};
 ghost use Rattle.per_codec_laws.specs.Takes.{Front};
 ghost use Rattle.per_codec_reading.specs.Fronts as fronts;
 ghost use Rattle.per_codec_reading.specs.Fronts.{freedoms, Misses};
+ghost use Rattle.per_codec_reading.specs.Octets.{octets_of};
 ghost use Rattle.per_codec_reading_values.specs.Integers.{has_spare, in_128_bits, number_octets, offset_form};
 ghost use Rattle.per_codec_reading_values.specs.Integers.{is_offset};
 
 use asn1_schema_errors::DecodeError;
 use asn1_values_natives::Wide;
 use asn1_values_natives::octets::has_padding;
-use per_codec_reading::{Cursor, PackedRules, read_counted_octets};
+use per_codec_reading::{Cursor, InputOctets, PackedRules, read_counted_octets};
 use std::alloc::Global;
-use std::borrow::CowSlice;
 
 /// Whether the first octet of a number is redundant (X.691 11.7 and 11.8).
 #[inline(always)]
@@ -53,11 +52,11 @@ pub fn read_number_octets<'input>(
     cursor: &mut Cursor<'input>,
     rules: PackedRules,
     signed: bool,
-) -> Result<CowSlice<'input, u8>, DecodeError>
+) -> Result<InputOctets<'input>, DecodeError>
     ensures ok { IfOk result (λ octets. Front (freedoms rules)
-        (number_octets (freedoms rules Per.longer_number) signed (fronts.is_aligned rules) (cow_slice_items octets))
+        (number_octets (freedoms rules Per.longer_number) signed (fronts.is_aligned rules) (octets_of octets))
         cursor.old cursor.new) }
-    ensures some { IfOk result (λ octets. 0 < length (cow_slice_items octets)) }
+    ensures some { IfOk result (λ octets. 0 < length (octets_of octets)) }
     ensures only { IfErr result (Misses (freedoms rules)
         (number_octets (freedoms rules Per.longer_number) signed (fronts.is_aligned rules)) cursor.old) }
 {

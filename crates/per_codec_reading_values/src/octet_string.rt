@@ -1,6 +1,5 @@
 //! OCTET STRING (X.691 17).
 ghost use Rattle.std.specs.Prelude.{◌≡◌, ◌≤◌, ◌+◌, ◌%◌, length, drop, Some, None, IfOk, IfErr};
-ghost use Rattle.std.specs.Cow.{cow_slice_items, IsBorrowedSlice};
 ghost use Rattle.asn1_model.specs.Per as Per;
 ghost use Rattle.asn1_model.specs.Schema as Asn1;
 ghost use Rattle.asn1_model.specs.Value as Asn1Value;
@@ -12,15 +11,15 @@ ghost use Rattle.per_codec_reading.specs.Fronts.{freedoms, Misses};
 ghost use Rattle.per_codec_reading.specs.Fronts as fronts;
 ghost use Rattle.per_codec_reading.specs.Runs.{bits_in, EndsAtOctet, InOneRun, storage_of};
 ghost use Rattle.per_codec_reading.specs.Headings.{told_in_front};
+ghost use Rattle.per_codec_reading.specs.Octets.{octets_of, AreLent};
 ghost use Rattle.per_codec_reading_values.specs.Fields.{EndsAt};
 
 use asn1_schema_constraints::{Bounded, Sizes};
 use asn1_schema_errors::DecodeError;
 use asn1_values_bits::{BitBuffer, BitStr};
 use per_codec_reading::lending::lent_by;
-use per_codec_reading::{Contents, Cursor, PackedRules, Run, RunBits, read_sized};
+use per_codec_reading::{Contents, Cursor, InputOctets, PackedRules, Run, RunBits, read_sized};
 use std::alloc::Global;
-use std::borrow::CowSlice;
 
 /// Reads an OCTET STRING (X.691 17) under a size constraint, for a Rust type that holds `held`, at a position of
 /// these bits. Returns it with the position after it. Octets in one run that begins at an octet of the storage, as
@@ -39,15 +38,14 @@ fn read_octet_string<'input>(
     rules: PackedRules,
     sizes: Sizes,
     held: Bounded<usize>,
-) -> Result<(CowSlice<'input, u8>, usize), DecodeError>
+) -> Result<(InputOctets<'input>, usize), DecodeError>
     requires { position ≤ length (bits_of bits) }
     ensures ok { IfOk result (λ read. EndsAt (freedoms rules)
         (Per.form (fronts.is_aligned rules) (Asn1.octet_string (size_of sizes) (counts_of held))
-        (Asn1Value.octet_list (cow_slice_items read.0)))
-        (position, drop position (bits_of bits.entry)) read.1) }
+        (Asn1Value.octet_list (octets_of read.0))) (position, drop position (bits_of bits.entry)) read.1) }
     ensures lent { IfOk result (λ read. InOneRun
-        (told_in_front (size_of sizes) (drop position (bits_of bits.entry))) (length (cow_slice_items read.0))
-        → EndsAtOctet (Some (offset_of bits.entry)) read.1 → IsBorrowedSlice read.0) }
+        (told_in_front (size_of sizes) (drop position (bits_of bits.entry))) (length (octets_of read.0))
+        → EndsAtOctet (Some (offset_of bits.entry)) read.1 → AreLent read.0) }
     ensures only { IfErr result (Misses (freedoms rules)
         (Per.form (fronts.is_aligned rules) (Asn1.octet_string (size_of sizes) (counts_of held)))
         (position, drop position (bits_of bits.entry))) }
@@ -81,7 +79,7 @@ fn read_held_octets(
         (position, drop position bits.now)) }
 {
     let (octets, end) = read_octet_string(alloc, bits.as_bitslice(), position, rules, sizes, held)?;
-    let octets = octets.into_owned(alloc)?;
+    let octets = octets.into_vec(alloc)?;
     Ok((octets, end))
 }
 
@@ -99,15 +97,14 @@ pub(crate) fn take_octet_string<'input>(
     rules: PackedRules,
     sizes: Sizes,
     held: Bounded<usize>,
-) -> Result<(CowSlice<'input, u8>, usize), DecodeError>
+) -> Result<(InputOctets<'input>, usize), DecodeError>
     requires { position ≤ length (bits_in bits.now) }
     ensures ok { IfOk result (λ taken. EndsAt (freedoms rules)
         (Per.form (fronts.is_aligned rules) (Asn1.octet_string (size_of sizes) (counts_of held))
-        (Asn1Value.octet_list (cow_slice_items taken.0)))
-        (position, drop position (bits_in bits.now)) taken.1) }
+        (Asn1Value.octet_list (octets_of taken.0))) (position, drop position (bits_in bits.now)) taken.1) }
     ensures lent { IfOk result (λ taken. InOneRun
-        (told_in_front (size_of sizes) (drop position (bits_in bits.now))) (length (cow_slice_items taken.0))
-        → EndsAtOctet (storage_of bits.now) taken.1 → IsBorrowedSlice taken.0) }
+        (told_in_front (size_of sizes) (drop position (bits_in bits.now))) (length (octets_of taken.0))
+        → EndsAtOctet (storage_of bits.now) taken.1 → AreLent taken.0) }
     ensures only { IfErr result (Misses (freedoms rules)
         (Per.form (fronts.is_aligned rules) (Asn1.octet_string (size_of sizes) (counts_of held)))
         (position, drop position (bits_in bits.now))) }
@@ -116,7 +113,7 @@ pub(crate) fn take_octet_string<'input>(
         RunBits::Lent(bits) => read_octet_string(alloc, *bits, position, rules, sizes, held),
         RunBits::Joined(bits) => {
             let (octets, end) = read_held_octets(alloc, bits, position, rules, sizes, held)?;
-            Ok((CowSlice::Owned(octets), end))
+            Ok((InputOctets::Owned(octets), end))
         }
     }
 }

@@ -1,7 +1,6 @@
 //! A range of bits with a read position.
 ghost use Rattle.std.specs.Prelude.{◌≡◌, ◌≤◌, ◌<◌, ◌+◌, ◌-◌, ◌^◌, ◌∷◌, [], length, take, drop, Some, None, IsTrue, ◌↔◌};
 ghost use Rattle.std.specs.Prelude.{OnOk, OnErr, IfOk, IfErr, IfSome, IfNone};
-ghost use Rattle.std.specs.Cow.{cow_slice_items, IsBorrowedSlice};
 ghost use Rattle.asn1_model.specs.Numbers.{octet_bits};
 ghost use Rattle.asn1_model.specs.Per as Per;
 ghost use Rattle.asn1_model.specs.Schema as Asn1;
@@ -14,6 +13,7 @@ ghost use Rattle.per_codec_reading.specs.Fronts as fronts;
 ghost use Rattle.per_codec_reading.specs.Fronts.{freedoms, Leads, Misses};
 ghost use Rattle.per_codec_reading.specs.Runs.{bits_in, EndsAtOctet, InOneRun, storage_inside, storage_of};
 ghost use Rattle.per_codec_reading.specs.Headings.{told_in_front};
+ghost use Rattle.per_codec_reading.specs.Octets.{octets_of, AreLent};
 ghost use Rattle.per_codec_reading_values.specs.Fields.{EndsAt, field_form, octets_form};
 
 use crate::fields::{Field, read_field};
@@ -23,9 +23,8 @@ use asn1_schema_constraints::{Bounded, Sizes};
 use asn1_schema_errors::{DecodeError, MOST_OCTETS};
 use asn1_values_bits::{BitBuffer, BitStr};
 use per_codec_reading::lending::lent_by;
-use per_codec_reading::{Cursor, PackedRules, RunBits};
+use per_codec_reading::{Cursor, InputOctets, PackedRules, RunBits};
 use std::alloc::{AllocError, Global};
-use std::borrow::CowSlice;
 use std::marker::Model;
 
 /// The bits of a message or open type, presence bits or a bitmap, borrowed or owned, and the number of them that have
@@ -343,13 +342,12 @@ impl<'input> Stretch<'input> {
         rules: PackedRules,
         sizes: Sizes,
         held: Bounded<usize>,
-    ) -> Result<CowSlice<'input, u8>, DecodeError>
+    ) -> Result<InputOctets<'input>, DecodeError>
         ensures ok { IfOk result (λ octets. Front (freedoms rules)
             (Per.form (fronts.is_aligned rules) (Asn1.octet_string (size_of sizes) (counts_of held))
-            (Asn1Value.octet_list (cow_slice_items octets))) self.old.place self.new.place) }
+            (Asn1Value.octet_list (octets_of octets))) self.old.place self.new.place) }
         ensures lent { IfOk result (λ octets. InOneRun (told_in_front (size_of sizes) self.old.place.1)
-            (length (cow_slice_items octets)) → EndsAtOctet self.old.storage self.new.place.0
-            → IsBorrowedSlice octets) }
+            (length (octets_of octets)) → EndsAtOctet self.old.storage self.new.place.0 → AreLent octets) }
         ensures storage { OnOk result (self.new.storage ≡ self.old.storage) }
         ensures stays { OnErr result (self.new.place ≡ self.old.place) }
         ensures only { IfErr result (Misses (freedoms rules)

@@ -1,13 +1,12 @@
 //! Octets after a length determinant, in one piece and in fragments, after 0 to 7 bits (X.691 11.9), and which of them
-//! are borrowed.
+//! are borrowed or copied.
 use crate::spelled::octets;
 use asn1_schema_errors::{DecodeError, EncodeError};
 use asn1_values_bits::BitBuffer;
 use per_codec_packing::Packing;
-use per_codec_reading::{Cursor, PackedRules, Variant, read_counted_octets};
+use per_codec_reading::{Cursor, InputOctets, PackedRules, Variant, read_counted_octets};
 use per_codec_writing::push_counted_octets;
 use std::alloc::{AllocError, Global};
-use std::borrow::CowSlice;
 use std::test::Fail;
 
 /// Octets, their encoding with a length determinant, and whether it is the canonical one: at the limits between two
@@ -164,44 +163,92 @@ fn octets_behind_bits(rt: HostRuntime) -> Result<(), Fail> {
     Ok(())
 }
 
-/// Octets with a length determinant, the octets alone, and whether they are borrowed.
-const LENT: [(Variant, &str, &str, bool); 5] = [
-    (Variant::Aligned, "03 01 02 03", "01 02 03", true),
-    (Variant::Unaligned, "80 03 01 02 03", "01 02 03", true),
-    (Variant::Unaligned, "00", "", true),
+/// Where the octets are that were read.
+#[derive(Clone, Copy, Debug, PartialEq)]
+enum Place {
+    Input,
+    Answer,
+    Memory,
+}
+
+/// The bits before octets with a length determinant, these, the octets alone, and where they are.
+const PLACES: [((Variant, usize), &str, &str, Place); 11] = [
     (
-        Variant::Unaligned,
-        "C4 5A*65536 B8 80 5A*14464",
-        "5A*80000",
-        false,
+        (Variant::Aligned, 0),
+        "03 01 02 03",
+        "01 02 03",
+        Place::Input,
     ),
     (
-        Variant::Aligned,
+        (Variant::Aligned, 1),
+        "03 01 02 03",
+        "01 02 03",
+        Place::Input,
+    ),
+    (
+        (Variant::Unaligned, 0),
+        "80 03 01 02 03",
+        "01 02 03",
+        Place::Input,
+    ),
+    ((Variant::Unaligned, 0), "00", "", Place::Input),
+    ((Variant::Unaligned, 1), "00", "", Place::Answer),
+    (
+        (Variant::Unaligned, 1),
+        "03 01 02 03",
+        "01 02 03",
+        Place::Answer,
+    ),
+    (
+        (Variant::Unaligned, 7),
+        "20 5A*31 A5",
+        "5A*31 A5",
+        Place::Answer,
+    ),
+    ((Variant::Unaligned, 4), "21 5A*33", "5A*33", Place::Memory),
+    ((Variant::Unaligned, 8), "21 5A*33", "5A*33", Place::Input),
+    (
+        (Variant::Unaligned, 0),
         "C4 5A*65536 B8 80 5A*14464",
         "5A*80000",
-        false,
+        Place::Memory,
+    ),
+    (
+        (Variant::Aligned, 0),
+        "C4 5A*65536 B8 80 5A*14464",
+        "5A*80000",
+        Place::Memory,
     ),
 ];
 
-/// Whether the octets at the start are these, and borrowed or not.
-fn is_lent(
-    alloc: Global,
-    (variant, counted, contents, is_lent): (Variant, &str, &str, bool),
-) -> Result<bool, Fail> {
-    let wanted = octets(alloc, contents)?;
-    let input = octets(alloc, counted)?;
-    let is_found = match read_counted_octets(alloc, &mut Cursor::new(&input), rules_of(variant))? {
-        CowSlice::Borrowed(found) => is_lent && found == wanted.as_slice(),
-        CowSlice::Owned(found) => !is_lent && found.as_slice() == wanted.as_slice(),
-    };
-    Ok(is_found)
+/// Where the octets are.
+fn place_of(octets: &InputOctets<'_>) -> Place {
+    match octets {
+        InputOctets::Lent(_) => Place::Input,
+        InputOctets::Few(_) => Place::Answer,
+        InputOctets::Owned(_) => Place::Memory,
+    }
 }
 
-/// Octets in one piece are borrowed; fragments are joined.
+/// Whether the octets after a number of bits are these, also as a vector, and in this place.
+fn is_in_place(
+    alloc: Global,
+    ((variant, count), counted, contents, place): ((Variant, usize), &str, &str, Place),
+) -> Result<bool, Fail> {
+    let wanted = octets(alloc, contents)?;
+    let input = behind(alloc, (variant, count), &octets(alloc, counted)?)?;
+    let mut cursor = Cursor::new(input.as_bytes());
+    cursor.take(count)?;
+    let found = read_counted_octets(alloc, &mut cursor, rules_of(variant))?;
+    let is_there = place_of(&found) == place && found.as_slice() == wanted.as_slice();
+    Ok(is_there && found.into_vec(alloc)? == wanted)
+}
+
+/// Octets in one piece are borrowed if they begin at an octet, and else copied; fragments are joined.
 #[test]
-fn what_is_lent(rt: HostRuntime) -> Result<(), Fail> {
-    for row in LENT {
-        assert!(rt; is_lent(rt.alloc(), row)?);
+fn where_octets_are(rt: HostRuntime) -> Result<(), Fail> {
+    for row in PLACES {
+        assert!(rt; is_in_place(rt.alloc(), row)?, "{row:?}");
     }
     Ok(())
 }

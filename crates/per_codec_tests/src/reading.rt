@@ -2,16 +2,15 @@
 ghost use Rattle.std.specs.Prelude.{◌<◌, ◌≡◌, IfErr};
 
 use asn1_schema_constraints::{Bounded, Constraints};
-use asn1_schema_decode::Decoder as _;
+use asn1_schema_decode::{Decoder as _, ReadOctets};
 use asn1_schema_errors::{CodecKind, DecodeError};
 use asn1_schema_tags::{Class, Tag, TagPlace, TagTables};
 use per_codec::uper::{Decoder, DecoderOptions};
 use per_codec_reading::boolean::{read_boolean, read_null};
 use per_codec_reading::length::{Length, read_length};
 use per_codec_reading::numbers::read_constrained;
-use per_codec_reading::{Cursor, PackedRules};
-use std::alloc::Global;
-use std::borrow::CowSlice;
+use per_codec_reading::{Cursor, InputOctets, PackedRules};
+use std::alloc::{AllocError, Global};
 use std::test::Fail;
 
 /// Both variants, read leniently and strictly.
@@ -193,10 +192,10 @@ fn decoders_that_have_failed(rt: HostRuntime) {
 }
 
 /// Whether a string is borrowed, and has these octets.
-fn is_lent(found: &CowSlice<u8, Global>, octets: &[u8]) -> bool {
+fn is_lent(found: &InputOctets<'_>, octets: &[u8]) -> bool {
     match found {
-        CowSlice::Borrowed(found) => *found == octets,
-        CowSlice::Owned(_) => false,
+        InputOctets::Lent(found) => *found == octets,
+        InputOctets::Few(_) | InputOctets::Owned(_) => false,
     }
 }
 
@@ -204,7 +203,7 @@ fn is_lent(found: &CowSlice<u8, Global>, octets: &[u8]) -> bool {
 fn lends(alloc: Global, decoder: &mut Decoder<'_>, octets: &[u8]) -> Result<bool, DecodeError> {
     let tag = Tag::OCTET_STRING;
     let found = decoder.decode_octet_string(alloc, tag, &Constraints::NONE, Bounded::None)?;
-    Ok(is_lent(&found, octets))
+    Ok(is_lent(&found.octets, octets))
 }
 
 /// Whether TRUE comes next, and a borrowed OCTET STRING after it.
@@ -272,4 +271,26 @@ fn octets_in_open_types_are_lent(rt: HostRuntime) {
         let strings: (&[u8], &[u8]) = (&[1, 2, 3], &[4, 5]);
         assert!(rt; lends_in_an_open_type(rt.alloc(), rules, &input, strings) == Ok(true));
     }
+}
+
+/// Whether these are the octets, borrowed and as a vector.
+fn holds<O: ReadOctets>(alloc: Global, found: O, octets: &[u8]) -> Result<bool, AllocError> {
+    let is_there = found.octets() == octets;
+    Ok(is_there && found.into_vec(alloc)?.as_slice() == octets)
+}
+
+/// Whether an OCTET STRING with these octets comes after one bit.
+fn holds_behind_a_bit(alloc: Global, input: &[u8], octets: &[u8]) -> Result<bool, DecodeError> {
+    let mut decoder = Decoder::new(alloc, input, DecoderOptions::unaligned());
+    let first = decoder.decode_bool(Tag::BOOL)?;
+    let tag = Tag::OCTET_STRING;
+    let found = decoder.decode_octet_string(alloc, tag, &Constraints::NONE, Bounded::None)?;
+    Ok(holds(alloc, found, octets)? && first)
+}
+
+#[test]
+fn octets_behind_a_bit_are_copied(rt: HostRuntime) -> Result<(), Fail> {
+    let input = [0x81, 0x80, 0x81, 0x01, 0x80];
+    assert!(rt; holds_behind_a_bit(rt.alloc(), &input, &[1, 2, 3]) == Ok(true));
+    Ok(())
 }

@@ -1,9 +1,9 @@
 use Rattle.std.proofs.Common.{arith}
 use Rattle.std.proofs.lemmas.Result.{err_from_is_err_and}
-use Rattle.std.specs.Cow.{cow_slice_items}
 use Rattle.asn1_model.specs.Per
 use Rattle.per_codec_reading.specs.Fronts.{freedoms, is_aligned}
 use Rattle.per_codec_reading.proofs.Fronts.{misses_also}
+use Rattle.per_codec_reading.specs.Octets.{octets_of}
 use Rattle.per_codec_reading.specs.Units.{counted_units}
 use Rattle.per_codec_reading.specs.Runs.{units_in, bits_in}
 use Rattle.per_codec_reading.proofs.OctetFronts.{counted_size, octets_front, no_octets}
@@ -26,5 +26,5 @@ into_octets-requires c =
 pub returns-clause-ok : goal.returns-clause-ok
 returns-clause-ok c =
     let run = c.in_ok-units.units in
-    octets_front (freedoms c.args.rules) (is_aligned c.args.rules) (units_in run) (cow_slice_items c.in_ok-octets.octets) c.args.cursor.now
+    octets_front (freedoms c.args.rules) (is_aligned c.args.rules) (units_in run) (octets_of c.in_ok-octets.octets) c.args.cursor.now
     c.read_counted.new.cursor c.in_ok-units.ensures.ok c.in_ok-octets.ensures.small c.in_ok-octets.ensures.octets

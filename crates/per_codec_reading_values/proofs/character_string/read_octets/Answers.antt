@@ -1,6 +1,5 @@
 use Rattle.std.proofs.Common.{◌∙◌, sym, subst}
 use Rattle.std.proofs.lemmas.Result.{err_from_is_err_and}
-use Rattle.std.specs.Cow.{cow_slice_items}
 use Rattle.asn1_model.specs.Per
 use Rattle.asn1_model.specs.Schema.{character_string}
 use Rattle.asn1_model.specs.Schema.{any_count}
@@ -9,6 +8,7 @@ use Rattle.asn1_schema_constraints.specs.Terms.{alphabet_of, sizes_of}
 use Rattle.per_codec_laws.specs.Takes.{Front}
 use Rattle.per_codec_reading.specs.Fronts.{freedoms, is_aligned}
 use Rattle.per_codec_reading.proofs.Fronts.{misses_also}
+use Rattle.per_codec_reading.specs.Octets.{octets_of}
 use Rattle.per_codec_reading_values.proofs.CharacterOctetFronts.{octets_stand, no_octets}
 use Rattle.per_codec_reading_values.proofs.character_string.read_octets.Goals as goal
 
@@ -34,4 +34,4 @@ returns-in-Ok-clause-ok g c =
     let b = c.read_counted_octets.new.cursor in
     subst (λ x. Front f (Per.form al (character_string S.kind z l any_count) (text x)) a b)
     (sym (c.in-Ok.ensures.characters ∙ c.as_slice.ensures.value))
-    (octets_stand f al S.kind z l c.requires.kind g.met.S.StaticPermittedAlphabet.holds (cow_slice_items c.in_ok-octets.octets) a b c.in_ok-octets.ensures.ok)
+    (octets_stand f al S.kind z l c.requires.kind g.met.S.StaticPermittedAlphabet.holds (octets_of c.in_ok-octets.octets) a b c.in_ok-octets.ensures.ok)

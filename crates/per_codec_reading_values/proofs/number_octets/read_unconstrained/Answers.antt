@@ -3,13 +3,13 @@ use Rattle.std.proofs.Common.{true, ap, sym, ◌∙◌, subst}
 use Rattle.std.specs.Int.{w128}
 use Rattle.std.proofs.lemmas.Int.{to_z-of_z}
 use Rattle.std.proofs.lemmas.Result.{err_from_is_err_and}
-use Rattle.std.specs.Cow.{cow_slice_items}
 use Rattle.asn1_model.specs.Numbers.{is_within}
 use Rattle.asn1_model.specs.Per
 use Rattle.asn1_values_natives.specs.Octets.{signed_number}
 use Rattle.per_codec_laws.specs.Takes.{Front}
 use Rattle.per_codec_reading.specs.Fronts.{freedoms, is_aligned}
 use Rattle.per_codec_reading.proofs.Fronts.{misses_also}
+use Rattle.per_codec_reading.specs.Octets.{octets_of}
 use Rattle.per_codec_reading_values.specs.Integers.{number_octets, in_128_bits}
 use Rattle.per_codec_reading_values.proofs.OctetFronts.{no_unconstrained, unconstrained_read, unconstrained_outside}
 use Rattle.per_codec_reading_values.proofs.WholeFronts.{wide_in_front}
@@ -30,12 +30,12 @@ returns-in-Some-clause-ok c =
     let al = is_aligned c.args.rules in
     let a = c.args.cursor.now in
     let b = c.read_number_octets.new.cursor in
-    let r = unconstrained_read f al c.in-Some.number (cow_slice_items c.in_ok-octets.octets) a b (c.in-Some.ensures.value ∙ ap signed_number v)
+    let r = unconstrained_read f al c.in-Some.number (octets_of c.in_ok-octets.octets) a b (c.in-Some.ensures.value ∙ ap signed_number v)
     (ap (λ l. is_within wide_range (signed_number l)) (sym v) ∙ sym c.in-Some.ensures.fits) c.in_ok-octets.ensures.ok in
     subst (λ z. Front f (in_128_bits (Per.unconstrained al) z) a b) (sym (to_z-of_z w128 c.in-Some.number (wide_in_front f (Per.unconstrained al) c.in-Some.number a b r))) r
 
 pub returns-clause-only : goal.returns-clause-only
 returns-clause-only c =
     let v = c.as_slice.ensures.value in
-    unconstrained_outside (freedoms c.args.rules) (is_aligned c.args.rules) (cow_slice_items c.in_ok-octets.octets) c.args.cursor.now
+    unconstrained_outside (freedoms c.args.rules) (is_aligned c.args.rules) (octets_of c.in_ok-octets.octets) c.args.cursor.now
     c.read_number_octets.new.cursor (ap (λ l. is_within wide_range (signed_number l)) (sym v) ∙ sym c.in-None.ensures.fits) c.in_ok-octets.ensures.ok

@@ -1,5 +1,4 @@
 use Rattle.std.proofs.Common.{◌≡◌, ◌%◌, Some, length, drop, ap, sym, ◌∙◌, subst, arith}
-use Rattle.std.specs.Cow.{cow_slice_items}
 use Rattle.asn1_model.specs.Per
 use Rattle.asn1_model.specs.Schema.{octet_string}
 use Rattle.asn1_model.specs.Value.{octet_list}
@@ -10,6 +9,7 @@ use Rattle.asn1_values_bits.specs.BitStr.{bits_of}
 use Rattle.per_codec_laws.specs.Takes.{Position, Front}
 use Rattle.per_codec_reading.specs.Fronts.{freedoms, is_aligned}
 use Rattle.per_codec_reading.proofs.Fronts.{misses_also}
+use Rattle.per_codec_reading.specs.Octets.{octets_of}
 use Rattle.per_codec_reading.specs.Runs.{bits_in, units_in, InOneRun, StandsIn, StandsBefore}
 use Rattle.per_codec_reading.specs.Headings.{contents_have_padding, sized_units, told_in_front}
 use Rattle.per_codec_reading.specs.declared.sized.Contents.TheVariants.{Strings}
@@ -53,7 +53,7 @@ returns-clause-ok c =
     let z = size_of c.args.sizes in
     let h = counts_of c.args.held in
     let us = units_in c.in_ok-units.units in
-    let os = cow_slice_items c.in_ok-octets.octets in
+    let os = octets_of c.in_ok-octets.octets in
     let b = c.read_sized.new.cursor in
     let g = octet_string_stands f al z h us os c.at-cursor.result b c.in_ok-units.ensures.ok c.in_ok-octets.ensures.small (c.in_ok-octets.ensures.octets ∙ c.lent_by.ensures.same) in
     (b, sym c.position-end.ensures, subst (λ (p : Position). Front f (Per.form al (octet_string z h) (octet_list os)) p b) c.at-cursor.ensures g)
@@ -62,7 +62,7 @@ pub returns-clause-lent : goal.returns-clause-lent
 returns-clause-lent c = λ one end.
     let z = size_of c.args.sizes in
     let us = units_in c.in_ok-units.units in
-    let os = cow_slice_items c.in_ok-octets.octets in
+    let os = octets_of c.in_ok-octets.octets in
     let n = sized_size (freedoms c.args.rules) (is_aligned c.args.rules) z (counts_of c.args.held) 8 (contents_have_padding Strings 8) us
     c.at-cursor.result c.read_sized.new.cursor c.in_ok-units.ensures.ok in
     let l = length-octet_bits os in

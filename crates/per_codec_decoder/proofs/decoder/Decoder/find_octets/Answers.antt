@@ -1,10 +1,10 @@
 use Rattle.std.proofs.Common.{ap, refl, sym, subst, ◌∙◌, ◌∷◌}
-use Rattle.std.specs.Cow.{cow_slice_items}
 use Rattle.asn1_model.specs.Schema.{octet_string}
 use Rattle.asn1_schema_constraints.specs.Bounds.{counts_of}
 use Rattle.asn1_schema_constraints.specs.Terms.{size_of}
 use Rattle.asn1_schema_laws.specs.Records.{octets}
 use Rattle.per_codec_reading.specs.Fronts.{freedoms, is_aligned}
+use Rattle.per_codec_reading.specs.Octets.{octets_of}
 use Rattle.per_codec_decoder.proofs.Finding.{asked_octets, octets_within}
 use Rattle.per_codec_decoder.proofs.Settling.{now_ready, steps}
 use Rattle.asn1_model.specs.Per
@@ -18,7 +18,7 @@ use Rattle.per_codec_decoder.proofs.decoder.Decoder.find_octets.Goals as goal
 
 pub returns-in-Ok-clause-ok : goal.returns-in-Ok-clause-ok
 returns-in-Ok-clause-ok c = steps _ _ _ c.take_octet_string.new.self.place c.self.inside.scopes.scopes c.self.inside.levels
-    (octets (size_of c.args.sizes) (counts_of c.args.held) (cow_slice_items c.in-Ok.octets))
+    (octets (size_of c.args.sizes) (counts_of c.args.held) (octets_of c.in-Ok.octets))
     (c.take_octet_string.new.self.storage ∷ c.self.inside.scopes.behind) c.self.view_is
     (now_ready _ _ c.self.view_is (sym c.is_some.ensures ∙ c.in_ok-go_on.ensures.ok)) (c.in-Ok.ensures.ok, refl) refl (ap (λ b. b ∷ c.self.inside.scopes.behind) c.in-Ok.ensures.storage) refl
 
