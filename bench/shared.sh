@@ -86,7 +86,7 @@ make_kinds_recode() {
     make_package kinds_recode "kinds_types bench_common asn1_relay_core asn1_schema_decode asn1_schema_encode anyhow" main=kinds/recode.in
 }
 make_tables_bench() {
-    make_package tables_bench "kinds_types $schema bench_common asn1_relay_core asn1_table_nodes asn1_table_relay asn1_table_tape asn1_table_types per_codec_encoder per_codec_reading anyhow" \
+    make_package tables_bench "kinds_types $schema bench_common asn1_relay_core asn1_table_nodes asn1_table_relay asn1_table_tape asn1_table_types per_codec_reading anyhow" \
         main=tables/main.in nodes=tables/nodes.in sample=types/sample.in
 }
 make_vehicle_bench() {
