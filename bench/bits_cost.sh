@@ -12,7 +12,7 @@ prove bits_cost
 compile "$here/bits_cost.c"
 # counted WHO PROGRAM: a line for each work, with its instructions.
 counted() {
-    valgrind --tool=callgrind --callgrind-out-file="$work/counted" "$2" > "$work/said.$1" 2> "$work/log"
+    callgrind --callgrind-out-file="$work/counted" "$2" > "$work/said.$1" 2> "$work/log"
     callgrind_annotate --inclusive=yes --threshold=100 "$work/counted" | awk -v who="$1" '
         match($0, /(:|::)(append|read)_(bits|11|16|64|runs|octets)/) {
             name = substr($0, RSTART, RLENGTH)

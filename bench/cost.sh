@@ -28,7 +28,7 @@ count() {
     rules=$2
     shift 2
     rm -f "$work"/counted*
-    valgrind --tool=callgrind --dump-before='clock_gettime*' --callgrind-out-file="$work/counted" "$@" > "$work/said" 2> "$work/log" \
+    callgrind --dump-before='clock_gettime*' --callgrind-out-file="$work/counted" "$@" > "$work/said" 2> "$work/log" \
         || { tail -20 "$work/log" >&2; exit 1; }
     awk -v who="$who" -v rules="$rules" -v counted="$work/counted." '{
         file = counted 2 * NR

@@ -126,6 +126,13 @@ prove() {
     (cd "$program" && ${RT:-rt} run -- "$@" > "$work/first" 2> "$work/log") || { tail -20 "$work/log" >&2; exit 1; }
 }
 
+# callgrind WORD..: runs a command under callgrind, after its options. Callgrind counts each octet that `rep movsb` moves as
+# an instruction; so here the C library moves long runs by vectors, as it does shorter ones.
+callgrind() {
+    GLIBC_TUNABLES=glibc.cpu.x86_rep_movsb_threshold=0x40000000:glibc.cpu.x86_rep_stosb_threshold=0x40000000 \
+        valgrind --tool=callgrind "$@"
+}
+
 # timed WHO COMMAND..: the lines that a program prints for its works, each after WHO.
 timed() {
     who=$1

@@ -13,7 +13,7 @@ prove growth_bench
 # an_octet SHAPE SIZE PIECE: the instructions of the relay, divided by the octets of the message.
 an_octet() {
     rm -f "$work"/counted*
-    valgrind --tool=callgrind --dump-before='clock_gettime*' --callgrind-out-file="$work/counted" \
+    callgrind --dump-before='clock_gettime*' --callgrind-out-file="$work/counted" \
         "$work/crates/growth_bench/out/growth_bench" "$@" > "$work/said" 2> "$work/log" || { tail -20 "$work/log" >&2; exit 1; }
     awk -v octets="$(cut -d' ' -f3 "$work/said")" '/^totals: / { printf "%.1f", $2 / octets }' "$work/counted.2"
 }

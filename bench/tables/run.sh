@@ -12,6 +12,6 @@ make_tables_bench
 prove tables_bench
 
 rm -f "$work"/counted*
-valgrind --tool=callgrind --dump-before='clock_gettime*' --callgrind-out-file="$work/counted" \
+callgrind --dump-before='clock_gettime*' --callgrind-out-file="$work/counted" \
     "$work/crates/tables_bench/out/tables_bench" few > "$work/said" 2> "$work/log" || { tail -20 "$work/log" >&2; exit 1; }
 awk -v counted="$work/counted." -f "$here/tables/table.awk" "$work/said"

@@ -25,7 +25,7 @@ measured() {
         return
     fi
     rm -f "$work"/counted*
-    valgrind --tool=callgrind --dump-before='clock_gettime*' --callgrind-out-file="$work/counted" "$@" > "$work/said" 2> "$work/log" \
+    callgrind --dump-before='clock_gettime*' --callgrind-out-file="$work/counted" "$@" > "$work/said" 2> "$work/log" \
         || { tail -20 "$work/log" >&2; exit 1; }
     awk -v who="$who" -v counted="$work/counted." '{
         file = counted 2 * NR
