@@ -90,7 +90,7 @@ event_plain : (ns : List TypeNode) (e : Event) → plain (record_of ns e)
 event_plain ns (Number i v) = number_plain (slice_get ns i) v
 event_plain ns (Item i v) = item_plain (slice_get ns i) v
 event_plain ns (Bits i bs) = bits_plain (slice_get ns i) bs
-event_plain ns (Octets i os) = octets_plain (slice_get ns i) os.items
+event_plain ns (Octets i os) = octets_plain (slice_get ns i) os
 event_plain ns (Text i x) = text_plain (slice_get ns i) x
 event_plain ns (ListBegins i n) = list_plain (slice_get ns i) n
 event_plain ns (ChoiceBegins i c) = choice_plain (tags_at ns i) c

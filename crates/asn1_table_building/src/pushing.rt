@@ -11,7 +11,7 @@ use crate::gathering::{Given, gather};
 use crate::steps::StepError;
 use asn1_schema_tags::Chosen;
 use asn1_table_names::{Part, alternative_of, component_at, is_list, is_scalar, is_sequence};
-use asn1_table_tape::{CharacterString, Event, elements_at, set_count};
+use asn1_table_tape::{CharacterString, Event, TapeOctets, elements_at, set_count};
 use asn1_table_types::Types;
 use asn1_values_bit_strings::BitString;
 use asn1_values_identifiers::ObjectIdentifier;
@@ -129,7 +129,7 @@ impl<'a> TapeBuilder<'a> {
     }
 
     /// The octets of an OCTET STRING.
-    pub fn octets(self, value: Vec<u8>) -> Result<Self, StepError>
+    pub fn octets(self, value: TapeOctets) -> Result<Self, StepError>
         ensures { IfOk result (λ b. IsSameType self.entry b) }
     {
         let place = self.expected_place()?;

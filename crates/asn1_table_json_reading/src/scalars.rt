@@ -9,7 +9,7 @@ use crate::strings::string_of;
 use asn1_schema_constraints::Sizes;
 use asn1_table_json_writing::fixed_size;
 use asn1_table_names::Names;
-use asn1_table_tape::Event;
+use asn1_table_tape::{Event, TapeOctets};
 use asn1_table_types::{TypeNode, Types};
 use asn1_values_bit_strings::BitString;
 use asn1_values_identifiers::{ObjectIdentifier, Oid};
@@ -107,7 +107,10 @@ fn string_in(
             let bits = sized_bits(alloc, hex::decode(alloc, text)?.as_slice(), *sizes)?;
             Ok(Some(Event::Bits(place, bits)))
         }
-        TypeNode::OctetString(_) => Ok(Some(Event::Octets(place, hex::decode(alloc, text)?))),
+        TypeNode::OctetString(_) => {
+            let octets = TapeOctets::from_vec(hex::decode(alloc, text)?);
+            Ok(Some(Event::Octets(place, octets)))
+        }
         TypeNode::CharacterString(table) => {
             let string = string_of(alloc, table.kind, text)?;
             Ok(Some(Event::Text(place, string)))

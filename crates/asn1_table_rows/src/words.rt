@@ -1,5 +1,5 @@
 //! Octets and events in words.
-use asn1_table_tape::{CharacterString, Event};
+use asn1_table_tape::{CharacterString, Event, TapeOctets};
 use asn1_values_bit_strings::BitString;
 use asn1_values_identifiers::{ObjectIdentifier, Oid};
 use asn1_values_integers::Integer;
@@ -59,7 +59,10 @@ fn string_of(
 ) -> Result<Option<Event>, AllocError> {
     match kind {
         "bits" => Ok(Some(Event::Bits(place, bits_of(alloc, value)?))),
-        "octets" => Ok(octets_of(alloc, value)?.map(|octets| Event::Octets(place, octets))),
+        "octets" => Ok(octets_of(alloc, value)?.map(|octets| Event::Octets(
+            place,
+            TapeOctets::from_vec(octets),
+        ))),
         "ia5" => Ok(
             Ia5String::from_text(alloc, value)
                 .ok()

@@ -1,5 +1,5 @@
 -- Values of one record, and indices of no type.
-use Rattle.std.proofs.Common.{◌≡◌, ◌∙◌, refl, sym, ap, subst, ℕ, ℤ, Vec, Global, Bool, true, List, [], ◌∷◌, ◌++◌, Option, Some, None, slice_get}
+use Rattle.std.proofs.Common.{◌≡◌, ◌∙◌, refl, sym, ap, subst, ℕ, ℤ, Bool, true, List, [], ◌∷◌, ◌++◌, Option, Some, None, slice_get}
 use Rattle.asn1_model.specs.Value.{Value, same_number, truth, nothing, number, item, bit_list, octet_list, text, arcs}
 use Rattle.asn1_model.specs.Schema.{Bounds, Range, Size, Alphabet, Schema, boolean, null, object_identifier, any_count}
 use Rattle.asn1_model.specs.Lawful.{is_lawful, are_distinct}
@@ -79,12 +79,12 @@ module _ {S : Type 0} {step : S → Record → S → Type 0} where
       let s : record_of ns (Bits place v) ≡ bits (size_of z) any_count v = ap (λ o. bits_record o v) e in
       one_told ns old new (Bits place v) (type_of ns n (Some (BitString z))) (bit_list v) refl refl tt s (subst (λ (y : Size). step a (bits y any_count v) b) q m) k
 
-  pub octets_told : (ns : List TypeNode) (n place : ℕ) (z : Sizes) (old new : List Event) (v : Vec ℕ Global) {os : List ℕ} {y : Size} {a b : S} → y ≡ size_of z → v.items ≡ os →
+  pub octets_told : (ns : List TypeNode) (n place : ℕ) (z : Sizes) (old new : List Event) (v : List ℕ) {os : List ℕ} {y : Size} {a b : S} → y ≡ size_of z → v ≡ os →
       slice_get ns place ≡ Some (OctetString z) → step a (octets y any_count os) b → new ≡ old ++ Octets place v ∷ [] →
       Told step (type_of ns n (Some (OctetString z))) a b (records_of ns old) (records_of ns new)
   unfolding presents Fits normal
   octets_told ns n place z old new v {os} {y} {a} {b} q h e m k =
-      let s : record_of ns (Octets place v) ≡ octets (size_of z) any_count os = ap (λ o. octets_record o v.items) e ∙ ap (octets (size_of z) any_count) h in
+      let s : record_of ns (Octets place v) ≡ octets (size_of z) any_count os = ap (λ o. octets_record o v) e ∙ ap (octets (size_of z) any_count) h in
       one_told ns old new (Octets place v) (type_of ns n (Some (OctetString z))) (octet_list os) refl refl tt s (subst (λ (y : Size). step a (octets y any_count os) b) q m) k
 
   pub text_told : (ns : List TypeNode) (n place : ℕ) (t : StringTable) (old new : List Event) (v : CharacterString) {y : Size} {l : Alphabet} {a b : S} → y ≡ size_of t.sizes →

@@ -130,7 +130,7 @@ payload_of ns e = elim e as (λ e. payload (record_of ns e) ≡ value_in e) [
   | event.Number i v ↦ (number_alike (slice_get ns i) v).0
   | event.Item i v ↦ (item_alike (slice_get ns i) v).0
   | event.Bits i v ↦ (bits_alike (slice_get ns i) v).0
-  | event.Octets i v ↦ (octets_alike (slice_get ns i) v.items).0
+  | event.Octets i v ↦ (octets_alike (slice_get ns i) v).0
   | event.Text i x ↦ (text_alike (slice_get ns i) x).0
   | event.ListBegins i n ↦ (list_alike (slice_get ns i) n).0
   | event.ChoiceBegins i c ↦ (choice_alike (tags_at ns i) c).0
@@ -143,7 +143,7 @@ off_of ns e = elim e as (λ e. is_off (record_of ns e) ≡ is_absence e) [
   | event.Number i v ↦ (number_alike (slice_get ns i) v).1
   | event.Item i v ↦ (item_alike (slice_get ns i) v).1
   | event.Bits i v ↦ (bits_alike (slice_get ns i) v).1
-  | event.Octets i v ↦ (octets_alike (slice_get ns i) v.items).1
+  | event.Octets i v ↦ (octets_alike (slice_get ns i) v).1
   | event.Text i x ↦ (text_alike (slice_get ns i) x).1
   | event.ListBegins i n ↦ (list_alike (slice_get ns i) n).1
   | event.ChoiceBegins i c ↦ (choice_alike (tags_at ns i) c).1
@@ -156,7 +156,7 @@ mark_of ns e = elim e as (λ e. mark (record_of ns e) ≡ mark_in e) [
   | event.Number i v ↦ (number_alike (slice_get ns i) v).2
   | event.Item i v ↦ (item_alike (slice_get ns i) v).2
   | event.Bits i v ↦ (bits_alike (slice_get ns i) v).2
-  | event.Octets i v ↦ (octets_alike (slice_get ns i) v.items).2
+  | event.Octets i v ↦ (octets_alike (slice_get ns i) v).2
   | event.Text i x ↦ (text_alike (slice_get ns i) x).2
   | event.ListBegins i n ↦ (list_alike (slice_get ns i) n).2
   | event.ChoiceBegins i c ↦ (choice_alike (tags_at ns i) c).2

@@ -4,6 +4,7 @@
 
 mod defaults;
 mod noted;
+mod octets;
 mod replaying;
 mod scalars;
 mod strings;
@@ -11,6 +12,7 @@ mod tape;
 mod terms;
 
 pub use noted::{is_default, is_empty_group};
+pub use octets::TapeOctets;
 pub use replaying::replay;
 pub use scalars::{
     read_arcs, read_bits, read_element_in_form, read_flag, read_in_form, read_item, read_nil,

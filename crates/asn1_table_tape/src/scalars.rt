@@ -12,10 +12,11 @@ ghost use Rattle.asn1_table_nodes.specs.declared.nodes.TypeNode.TheVariants as n
 ghost use Rattle.asn1_table_tape.specs.Records.{records_of};
 ghost use Rattle.asn1_table_types.specs.Forms.{bounds_there};
 
+use crate::octets::TapeOctets;
 use crate::tape::{Event, keep};
 use crate::terms::{items_at, number_constraints, size_constraints};
 use asn1_schema_constraints::{Bounded, Sizes};
-use asn1_schema_decode::{Decoder, ReadOctets};
+use asn1_schema_decode::Decoder;
 use asn1_schema_errors::DecodeError;
 use asn1_schema_forms::NumberForm;
 use asn1_schema_tags::Tag;
@@ -176,7 +177,7 @@ pub fn read_octets<D: Decoder>(
 {
     let constraints = size_constraints(sizes);
     let read = decoder.decode_octet_string(alloc, Tag::OCTET_STRING, &constraints, Bounded::None)?;
-    let Ok(octets) = read.into_vec(alloc) else {
+    let Ok(octets) = TapeOctets::read(alloc, read) else {
         return Err(decoder.refuse(DecodeError::OutOfMemory));
     };
     keep(decoder, tape, Event::Octets(place, octets))?;

@@ -3,6 +3,7 @@
 
 ghost use Rattle.std.specs.Prelude.{◌≡◌, ◌+◌, ◌++◌, [], ◌∷◌, OnOk, OnErr, IfErr, vec_len, slice_set as set};
 
+use crate::octets::TapeOctets;
 use crate::strings::CharacterString;
 use asn1_schema_decode::Decoder;
 use asn1_schema_errors::DecodeError;
@@ -25,7 +26,7 @@ pub enum Event {
     /// BIT STRING: the index of its type in the table, and the bits.
     Bits(usize, BitString),
     /// OCTET STRING: the index of its type in the table, and the octets.
-    Octets(usize, Vec<u8>),
+    Octets(usize, TapeOctets),
     /// A restricted character string: the index of its type in the table, and the string.
     Text(usize, CharacterString),
     /// OBJECT IDENTIFIER: the arcs.
