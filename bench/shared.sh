@@ -55,7 +55,7 @@ make_package() {
 
 # The packages below the types of «Types» and «Kinds», those of «Scalars», constraints of these, and the codecs.
 schema='asn1_model asn1_schema_authored asn1_schema_constraints asn1_schema_constructed asn1_schema_decode asn1_schema_encode'
-schema="$schema asn1_schema_errors asn1_schema_laws asn1_schema_tags asn1_schema_types asn1_schema_tags asn1_schema_wrapped asn1_values_octets"
+schema="$schema asn1_schema_errors asn1_schema_laws asn1_schema_tags asn1_schema_types asn1_schema_wrapped asn1_values_octets"
 scalars='asn1_schema_example asn1_values_bit_strings asn1_values_identifiers asn1_values_integers asn1_values_octets'
 scalars="$scalars asn1_values_strings"
 constraints='asn1_model asn1_schema_constraints asn1_schema_laws asn1_schema_types asn1_schema_wrapped'
