@@ -1,5 +1,5 @@
 //! Constrained whole numbers (X.691 11.5).
-ghost use Rattle.std.specs.Prelude.{◌≡◌, ◌+◌, ◌-◌, ◌*◌, ◌≤◌, ◌<◌, ◌^◌, ◌==◌, ◌||◌, true, Bool};
+ghost use Rattle.std.specs.Prelude.{◌≡◌, ◌+◌, ◌-◌, ◌*◌, ◌≤◌, ◌<◌, ◌^◌, ◌==◌, ◌||◌, ◌⊎◌, true, Bool};
 ghost use Rattle.std.specs.Prelude.{IfOk, IfErr, IfSome, IfNone};
 ghost use Rattle.asn1_model.specs.Numbers as Numbers;
 ghost use Rattle.asn1_model.specs.Per as Per;
@@ -57,6 +57,15 @@ fn read_aligned_within(
 {
     read_padding(cursor, rules)?;
     read_number_within(cursor, rules, bits, most)
+}
+
+/// The bits of an octet-aligned number of 0 to `span`: an octet for 256 values, two for more (X.691 11.5.7.2 and
+/// 11.5.7.3).
+#[inline(always)]
+fn aligned_width(span: u128) -> usize
+    ensures { ((span ≡ 255) × (result ≡ 8)) ⊎ ((¬ (span ≡ 255)) × (result ≡ 16)) }
+{
+    if span == 255 { 8 } else { 16 }
 }
 
 /// Whether a number in `further + 1` octets needs that many: only then is the first of several not zero.
@@ -187,11 +196,8 @@ pub fn read_constrained(
     if !rules.is_aligned() || span < 255 {
         return read_number_within(cursor, rules, bit_count(span), span);
     }
-    if span == 255 {
-        return read_aligned_within(cursor, rules, 8, span);
-    }
     if span < LONG_SPAN {
-        return read_aligned_within(cursor, rules, 16, span);
+        return read_aligned_within(cursor, rules, aligned_width(span), span);
     }
     read_octets_within(cursor, rules, span)
 }

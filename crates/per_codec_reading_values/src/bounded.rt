@@ -4,6 +4,7 @@ ghost use Rattle.std.specs.Prelude.{◌≡◌, ◌≤◌, ◌+ℤ◌, pos, true,
 ghost use Rattle.asn1_model.specs.Numbers.{is_within, width};
 ghost use Rattle.asn1_model.specs.Per as Per;
 ghost use Rattle.asn1_schema_constraints.specs.Bounds.{lower, range_of, upper};
+ghost use Rattle.asn1_schema_constraints.specs.Sets.{has_additions};
 ghost use Rattle.per_codec_laws.specs.Takes.{Front};
 ghost use Rattle.per_codec_reading.specs.Fronts as fronts;
 ghost use Rattle.per_codec_reading.specs.Fronts.{freedoms, IsFresh, Misses};
@@ -104,8 +105,8 @@ fn read_up_to(
 }
 
 /// Reads a number of the root, by its bounds (X.691 13.2).
-#[inline(always)]
-fn read_root(
+#[inline(never)]
+fn read_any_root(
     alloc: Global,
     cursor: &mut Cursor<'_>,
     rules: PackedRules,
@@ -129,6 +130,29 @@ fn read_root(
     }
 }
 
+/// The same. Two bounds are looked for first, so that a call of it takes little code.
+#[inline(always)]
+fn read_root(
+    alloc: Global,
+    cursor: &mut Cursor<'_>,
+    rules: PackedRules,
+    bounds: Bounded<i128>,
+) -> Result<i128, DecodeError>
+    ensures ok { IfOk result (λ number. Front (freedoms rules)
+        (in_128_bits (Per.whole_number (fronts.is_aligned rules) (lower bounds) (upper bounds)) number) cursor.old
+        cursor.new) }
+    ensures only { IfErr result (Misses (freedoms rules)
+        (in_128_bits (Per.whole_number (fronts.is_aligned rules) (lower bounds) (upper bounds))) cursor.old) }
+{
+    match bounds {
+        Bounded::Range { start, end } => match (start, end) {
+            (Some(low), Some(high)) => read_between(cursor, rules, low, high),
+            _ => read_any_root(alloc, cursor, rules, bounds),
+        },
+        _ => read_any_root(alloc, cursor, rules, bounds),
+    }
+}
+
 /// Reads what follows an extension bit: a number of the root, or one outside it (X.691 13.1).
 fn read_behind_extension_bit(
     alloc: Global,
@@ -146,7 +170,7 @@ fn read_behind_extension_bit(
     if is_outside {
         return read_unconstrained(alloc, cursor, rules);
     }
-    read_root(alloc, cursor, rules, bounds)
+    read_any_root(alloc, cursor, rules, bounds)
 }
 
 /// Whether an extension bit is accepted for a number: in strict rules, a number within the bounds is not said to be
@@ -162,6 +186,30 @@ fn is_accepted_outside(
         (is_within (range_of bounds) number) }
 {
     !is_outside || !rules.is_strict() || !bounds.contains(&number)
+}
+
+/// Reads an extension bit, and the number behind it (X.691 13.1). Numbers within the bounds are accepted in either case
+/// if the rules are not strict.
+#[inline(never)]
+fn read_extensible(
+    alloc: Global,
+    cursor: &mut Cursor<'_>,
+    rules: PackedRules,
+    constraint: Extensible<'_, Value>,
+) -> Result<i128, DecodeError>
+    requires { has_additions constraint ≡ true }
+    ensures ok { IfOk result (λ number. Front (freedoms rules)
+        (in_128_bits (under_constraint (fronts.is_aligned rules) constraint.entry) number) cursor.old cursor.new) }
+    ensures only { IfErr result (Misses (freedoms rules)
+        (in_128_bits (under_constraint (fronts.is_aligned rules) constraint.entry)) cursor.old) }
+{
+    let bounds = constraint.constraint.value;
+    let is_outside = read_bit(cursor, rules)?;
+    let number = read_behind_extension_bit(alloc, cursor, rules, is_outside, bounds)?;
+    if !is_accepted_outside(rules, bounds, is_outside, number) {
+        return Err(DecodeError::NotValidCanonicalEncoding);
+    }
+    Ok(number)
 }
 
 /// Reads a number of 128 bits under a value constraint (X.691 13). If the constraint is extensible, the extension bit
@@ -185,16 +233,10 @@ pub fn read_bounded(
     ensures only { IfErr result (Misses (freedoms rules)
         (in_128_bits (under_constraint (fronts.is_aligned rules) constraint.entry)) cursor.old) }
 {
-    let bounds = constraint.constraint.value;
     if constraint.extensible.is_none() {
-        return read_root(alloc, cursor, rules, bounds);
+        return read_root(alloc, cursor, rules, constraint.constraint.value);
     }
-    let is_outside = read_bit(cursor, rules)?;
-    let number = read_behind_extension_bit(alloc, cursor, rules, is_outside, bounds)?;
-    if !is_accepted_outside(rules, bounds, is_outside, number) {
-        return Err(DecodeError::NotValidCanonicalEncoding);
-    }
-    Ok(number)
+    read_extensible(alloc, cursor, rules, constraint)
 }
 
 /// Reads a constrained whole number of 0 to `span`, which has this number of bits (X.691 11.5).

@@ -1,5 +1,5 @@
 //! INTEGER (X.691 13).
-ghost use Rattle.std.specs.Prelude.{IfOk, IfErr};
+ghost use Rattle.std.specs.Prelude.{IfOk, IfErr, None};
 ghost use Rattle.asn1_model.specs.Per as Per;
 ghost use Rattle.asn1_model.specs.Schema as Asn1;
 ghost use Rattle.asn1_model.specs.Value as Asn1Value;
@@ -17,6 +17,23 @@ use asn1_schema_forms::NumberForm;
 use asn1_values_integers::IntegerType;
 use per_codec_reading::{Cursor, PackedRules};
 use std::alloc::Global;
+
+/// Reads an INTEGER without a value constraint (X.691 13.2.4), as a value of the Rust type.
+#[inline(never)]
+fn read_any_integer<I: IntegerType>(
+    alloc: Global,
+    cursor: &mut Cursor<'_>,
+    rules: PackedRules,
+) -> Result<I, DecodeError>
+    ensures ok { IfOk result (λ x. Front (freedoms rules)
+        (Per.form (fronts.is_aligned rules) (Asn1.integer (bounds_of None) (held_of None I.held))
+        (Asn1Value.number (I.value x))) cursor.old cursor.new) }
+    ensures only { IfErr result (Misses (freedoms rules)
+        (Per.form (fronts.is_aligned rules) (Asn1.integer (bounds_of None) (held_of None I.held))) cursor.old) }
+{
+    let octets = read_number_octets(alloc, cursor, rules, true)?;
+    number_from_octets(alloc, true, octets.as_slice())
+}
 
 /// Reads an INTEGER (X.691 13) under a value constraint, as a value of the Rust type.
 ///
@@ -42,8 +59,7 @@ pub fn read_integer<I: IntegerType>(
         (Asn1.integer (bounds_of constraints.now.value) (held_of constraints.now.value I.held))) cursor.old) }
 {
     let Some(constraint) = constraints.value else {
-        let octets = read_number_octets(alloc, cursor, rules, true)?;
-        return number_from_octets(alloc, true, octets.as_slice());
+        return read_any_integer(alloc, cursor, rules);
     };
     let number = read_bounded(alloc, cursor, rules, constraint)?;
     held_number(number)

@@ -33,29 +33,20 @@ returns-then-not-is_aligned-clause-only c =
     err_also c.read_number_within.result (λ e. misses_also f (number_within c.bit_count.result c.args.span) (Per.constrained al c.args.span) a a e
     (λ n. few_missed f al c.args.span a few (subst (λ w. NoneStands f (number_within w c.args.span) a) c.bit_count.ensures.value n))) c.read_number_within.ensures.only
 
-pub returns-then-span-eq255-clause-ok : goal.returns-then-span-eq255-clause-ok
-returns-then-span-eq255-clause-ok c =
-    let l = c.if-span-eq255.true in
-    ok_also c.read_aligned_within.result (λ n. one_read (freedoms c.args.rules) (is_aligned c.args.rules) c.args.span n c.args.cursor.now
-    c.read_aligned_within.new.cursor c.if-not-is_aligned.ensures l) c.read_aligned_within.ensures.ok
-
-pub returns-then-span-eq255-clause-only : goal.returns-then-span-eq255-clause-only
-returns-then-span-eq255-clause-only c =
-    let f = freedoms c.args.rules in
-    let al = is_aligned c.args.rules in
-    let a = c.args.cursor.now in
-    let s = c.args.span in
-    let l = c.if-span-eq255.true in
-    err_also c.read_aligned_within.result (λ e. misses_also f (aligned_within al 8 s) (Per.constrained al s) a a e
-    (one_missed f al s a c.if-not-is_aligned.ensures l)) c.read_aligned_within.ensures.only
-
 pub returns-then-span-lt-LONG_SPAN-clause-ok : goal.returns-then-span-lt-LONG_SPAN-clause-ok
 returns-then-span-lt-LONG_SPAN-clause-ok c =
+    let f = freedoms c.args.rules in
+    let al = is_aligned c.args.rules in
+    let s = c.args.span in
+    let a = c.args.cursor.now in
+    let b = c.read_aligned_within.new.cursor in
     let g = c.if-span-lt255.false in
-    let n = c.if-span-eq255.false in
-    ok_also c.read_aligned_within-then-span-lt-LONG_SPAN.result (λ d.
-    two_read (freedoms c.args.rules) (is_aligned c.args.rules) c.args.span d c.args.cursor.now
-    c.read_aligned_within-then-span-lt-LONG_SPAN.new.cursor c.if-not-is_aligned.ensures (omega arith) c.if-span-lt-LONG_SPAN.true) c.read_aligned_within-then-span-lt-LONG_SPAN.ensures.ok
+    elim c.aligned_width.ensures [
+      | inl one ↦ ok_also c.read_aligned_within.result (λ d x. one_read f al s d a b c.if-not-is_aligned.ensures one.0
+        (subst (λ w. Front f (aligned_within al w s d) a b) one.1 x)) c.read_aligned_within.ensures.ok
+      | inr two ↦ ok_also c.read_aligned_within.result (λ d x. let n = two.0 in two_read f al s d a b c.if-not-is_aligned.ensures (omega arith)
+        c.if-span-lt-LONG_SPAN.true (subst (λ w. Front f (aligned_within al w s d) a b) two.1 x)) c.read_aligned_within.ensures.ok
+    ]
 
 pub returns-then-span-lt-LONG_SPAN-clause-only : goal.returns-then-span-lt-LONG_SPAN-clause-only
 returns-then-span-lt-LONG_SPAN-clause-only c =
@@ -64,10 +55,13 @@ returns-then-span-lt-LONG_SPAN-clause-only c =
     let a = c.args.cursor.now in
     let s = c.args.span in
     let g = c.if-span-lt255.false in
-    let n = c.if-span-eq255.false in
-    err_also c.read_aligned_within-then-span-lt-LONG_SPAN.result
-    (λ e. misses_also f (aligned_within al 16 s) (Per.constrained al s) a a e
-    (two_missed f al s a c.if-not-is_aligned.ensures (omega arith) c.if-span-lt-LONG_SPAN.true)) c.read_aligned_within-then-span-lt-LONG_SPAN.ensures.only
+    let w = c.aligned_width.result in
+    err_also c.read_aligned_within.result (λ e. misses_also f (aligned_within al w s) (Per.constrained al s) a a e
+    (λ m. elim c.aligned_width.ensures [
+      | inl one ↦ one_missed f al s a c.if-not-is_aligned.ensures one.0 (subst (λ v. NoneStands f (aligned_within al v s) a) one.1 m)
+      | inr two ↦ let n = two.0 in two_missed f al s a c.if-not-is_aligned.ensures (omega arith) c.if-span-lt-LONG_SPAN.true
+        (subst (λ v. NoneStands f (aligned_within al v s) a) two.1 m)
+    ])) c.read_aligned_within.ensures.only
 
 pub returns-clause-ok : goal.returns-clause-ok
 returns-clause-ok c = ok_also c.read_octets_within.result (λ d x.

@@ -4,4 +4,4 @@ pub returns-then-is_outside-clause-only : goal.returns-then-is_outside-clause-on
 returns-then-is_outside-clause-only c = rw c.if-is_outside.true c.read_unconstrained.ensures.only
 
 pub returns-clause-only : goal.returns-clause-only
-returns-clause-only c = rw c.if-is_outside.false c.read_root.ensures.only
+returns-clause-only c = rw c.if-is_outside.false c.read_any_root.ensures.only

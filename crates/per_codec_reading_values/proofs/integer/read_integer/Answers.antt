@@ -10,38 +10,15 @@ use Rattle.per_codec_reading_values.proofs.IntegerFronts.{Integer, no_plain, pla
 use Rattle.per_codec_reading_values.proofs.WholeFronts.{wide_in_front}
 use Rattle.per_codec_reading_values.proofs.integer.read_integer.Goals as goal
 
-pub returns-in_err-octets-clause-only : goal.returns-in_err-octets-clause-only
-returns-in_err-octets-clause-only g c =
-    let p = err_from_is_err_and c.from_residual.result c.from_residual.ensures.1 in
-    let f = freedoms c.args.rules in
-    let al = is_aligned c.args.rules in
-    let a = c.args.cursor.now in
-    let h = g.I.IntegerType.held in
-    rw (p.1, p.2, c.in_default.is) (misses_also f (number_octets (f Per.longer_number) true al) (Integer f al None h) a a _ (no_plain f al h a) c.in_err-octets.ensures.only)
-
 pub returns-in_default-clause-ok : goal.returns-in_default-clause-ok
-returns-in_default-clause-ok g c =
-    let f = freedoms c.args.rules in
-    let al = is_aligned c.args.rules in
-    let a = c.args.cursor.now in
-    let h = g.I.IntegerType.held in
-    let v = c.as_slice.ensures.value in
-    rw c.in_default.is (plain_read f al c.number_from_octets.result g.I.IntegerType.value h c.as_slice.result.now a c.read_number_octets.new.cursor
-    c.number_from_octets.ensures.value c.number_from_octets.ensures.held (rw v c.in_ok-octets.ensures.ok))
+returns-in_default-clause-ok g c = rw c.in_default.is c.read_any_integer.ensures.ok
 
 pub returns-in_default-clause-only : goal.returns-in_default-clause-only
-returns-in_default-clause-only g c =
-    let f = freedoms c.args.rules in
-    let al = is_aligned c.args.rules in
-    let a = c.args.cursor.now in
-    let h = g.I.IntegerType.held in
-    let v = c.as_slice.ensures.value in
-    rw c.in_default.is (plain_refused f al c.number_from_octets.result h c.as_slice.result.now a c.read_number_octets.new.cursor
-    c.number_from_octets.ensures.refused c.number_from_octets.ensures.fresh (rw v c.in_ok-octets.ensures.ok))
+returns-in_default-clause-only g c = rw c.in_default.is c.read_any_integer.ensures.only
 
 pub returns-in_err-number-clause-only : goal.returns-in_err-number-clause-only
 returns-in_err-number-clause-only g c =
-    let p = err_from_is_err_and c.from_residual-in_err-number.result c.from_residual-in_err-number.ensures.1 in
+    let p = err_from_is_err_and c.from_residual.result c.from_residual.ensures.1 in
     let f = freedoms c.args.rules in
     let al = is_aligned c.args.rules in
     let a = c.args.cursor.now in
