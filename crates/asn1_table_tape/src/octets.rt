@@ -1,7 +1,7 @@
 //! The octets of an OCTET STRING on a tape.
 #![tactic(auto, using(std::proofs::lemmas::Grind::common_steps))]
 
-ghost use Rattle.std.specs.Prelude.{◌≡◌, ◌≤◌, length, IfOk, IfSome};
+ghost use Rattle.std.specs.Prelude.{◌≡◌, ◌≤◌, length, IfOk, IfSome, IsOk, IsSome};
 
 use asn1_schema_decode::ReadOctets;
 use std::alloc::{AllocError, Global};
@@ -43,7 +43,8 @@ impl TapeOctets {
     // A copy of at most 30 octets.
     #[inline(always)]
     fn from_few(octets: &[u8]) -> Option<TapeOctets>
-        ensures { IfSome result (λ copy. copy ≡ octets.now) }
+        ensures copy { IfSome result (λ copy. copy ≡ octets.now) }
+        ensures few { length octets.now ≤ 30 → IsSome result }
     {
         let count = octets.len();
         if count > FEW {
@@ -66,7 +67,8 @@ impl TapeOctets {
     /// Out of memory, if they are more than 30.
     #[inline(always)]
     pub fn read<O: ReadOctets>(alloc: Global, octets: O) -> Result<TapeOctets, AllocError>
-        ensures { IfOk result (λ kept. kept ≡ O.items octets) }
+        ensures ok { IfOk result (λ kept. kept ≡ O.items octets) }
+        ensures few { length (O.items octets) ≤ 30 → IsOk result }
     {
         if let Some(few) = TapeOctets::from_few(octets.octets()) {
             return Ok(few);

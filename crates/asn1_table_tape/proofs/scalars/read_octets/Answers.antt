@@ -8,4 +8,4 @@ returns-in_err-read-clause-only g c = raised _ _ _ c.from_residual.ensures.1 (λ
 
 pub returns-clause-ok : goal.returns-clause-ok
 returns-clause-ok g c = λ ns e. rw c.in_ok-keep.ensures.same (octets_told ns
-    (g.D.Decoder.levels c.args.decoder.now) c.args.place c.args.sizes _ _ _ c.size_constraints-constraints.ensures c.in-Ok.ensures e c.in_ok-read.ensures.ok c.in_ok-keep.ensures.kept)
+    (g.D.Decoder.levels c.args.decoder.now) c.args.place c.args.sizes _ _ _ c.size_constraints-constraints.ensures c.in-Ok.ensures.ok e c.in_ok-read.ensures.ok c.in_ok-keep.ensures.kept)

@@ -43,9 +43,9 @@ returns-then-span-lt-LONG_SPAN-clause-ok c =
     let g = c.if-span-lt255.false in
     elim c.aligned_width.ensures [
       | inl one ↦ ok_also c.read_aligned_within.result (λ d x. one_read f al s d a b c.if-not-is_aligned.ensures one.0
-        (subst (λ w. Front f (aligned_within al w s d) a b) one.1 x)) c.read_aligned_within.ensures.ok
+          (subst (λ w. Front f (aligned_within al w s d) a b) one.1 x)) c.read_aligned_within.ensures.ok
       | inr two ↦ ok_also c.read_aligned_within.result (λ d x. let n = two.0 in two_read f al s d a b c.if-not-is_aligned.ensures (omega arith)
-        c.if-span-lt-LONG_SPAN.true (subst (λ w. Front f (aligned_within al w s d) a b) two.1 x)) c.read_aligned_within.ensures.ok
+          c.if-span-lt-LONG_SPAN.true (subst (λ w. Front f (aligned_within al w s d) a b) two.1 x)) c.read_aligned_within.ensures.ok
     ]
 
 pub returns-then-span-lt-LONG_SPAN-clause-only : goal.returns-then-span-lt-LONG_SPAN-clause-only
@@ -60,7 +60,7 @@ returns-then-span-lt-LONG_SPAN-clause-only c =
     (λ m. elim c.aligned_width.ensures [
       | inl one ↦ one_missed f al s a c.if-not-is_aligned.ensures one.0 (subst (λ v. NoneStands f (aligned_within al v s) a) one.1 m)
       | inr two ↦ let n = two.0 in two_missed f al s a c.if-not-is_aligned.ensures (omega arith) c.if-span-lt-LONG_SPAN.true
-        (subst (λ v. NoneStands f (aligned_within al v s) a) two.1 m)
+          (subst (λ v. NoneStands f (aligned_within al v s) a) two.1 m)
     ])) c.read_aligned_within.ensures.only
 
 pub returns-clause-ok : goal.returns-clause-ok

@@ -38,4 +38,3 @@ returns-clause-only g c =
     let v = c.as_slice.ensures.value in
     (plain_refused f al c.number_from_octets.result h c.as_slice.result.now a c.read_number_octets.new.cursor
     c.number_from_octets.ensures.refused c.number_from_octets.ensures.fresh (rw v c.in_ok-octets.ensures.ok))
-
