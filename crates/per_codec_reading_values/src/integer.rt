@@ -19,7 +19,6 @@ use per_codec_reading::{Cursor, PackedRules};
 use std::alloc::Global;
 
 /// Reads an INTEGER without a value constraint (X.691 13.2.4), as a value of the Rust type.
-#[inline(never)]
 fn read_any_integer<I: IntegerType>(
     alloc: Global,
     cursor: &mut Cursor<'_>,
