@@ -62,7 +62,8 @@ constraints='asn1_model asn1_schema_constraints asn1_schema_laws asn1_schema_typ
 codecs='asn1_schema_decode asn1_schema_encode asn1_schema_errors oer_codec per_codec'
 
 # make_bench_common, make_bench_rules, make_types_bench, make_scalars_bench, make_kinds_types, make_kinds_bench,
-# make_kinds_recode, make_tables_bench, make_vehicle_bench: the packages with these names.
+# make_kinds_recode, make_tables_bench, make_vehicle_bench, make_vehicle_types, make_vehicle_typed: the packages with
+# these names.
 make_bench_common() {
     make_package bench_common '' lib=common.in
 }
@@ -98,6 +99,19 @@ make_vehicle_bench() {
         sed 's/\\/\\\\/g; s/"/\\"/g' "$here/vehicle/vehicle.asn1"
         echo '";'
     } > "$work/crates/vehicle_bench/src/module.rt"
+}
+
+make_vehicle_types() {
+    make_package vehicle_types 'asn1_schema asn1_values' \
+        lib=vehicle/types.in awareness=vehicle/awareness.in bend=vehicle/bend.in kind=vehicle/kind.in motion=vehicle/motion.in \
+        path=vehicle/path.in position=vehicle/position.in
+    proof=$work/crates/vehicle_types/proofs/bend/BendAlternativeChoiceAlternatives/write_chosen
+    mkdir -p "$proof"
+    cp "$here/vehicle/bend.antt" "$proof/Answers.antt"
+}
+make_vehicle_typed() {
+    make_package vehicle_typed 'vehicle_types bench_common bench_rules asn1_relay_core asn1_schema_errors asn1_values_bits anyhow' \
+        main=vehicle/typed.in messages=vehicle/messages.in
 }
 
 # compile FLAG.. FILE: the work in C.

@@ -1,18 +1,24 @@
 #!/bin/sh
 # bench/vehicle/run.sh count|time [FOLDER]: messages of vehicles through the table of vehicle.asn1 from UPER to COER and
-# back, the same in C by hand, and reading and writing in UPER in the code that asn1c generates; then signed records, a
-# list and a string of 8 MiB. `count` prints the instructions of a message, an element and an octet, over a hundredth of
-# them, as valgrind counts; `time` the best of five runs, and how many a second that is. RT, CC and RUN are as in
-# shared.sh.
+# back (`here`), the same by types of Rust (`types`) and in C by hand (`plain`), each also read alone and written alone,
+# and reading and writing in UPER in the code that asn1c generates; then signed records, a list and a string of 8 MiB.
+# `count` prints the instructions of a message, an element and an octet, over a hundredth of them, as valgrind counts;
+# `time` the best of five runs, and how many a second that is. RT, CC and RUN are as in shared.sh.
 here=$(cd "$(dirname "$0")/.." && pwd)
 wanted=${1:-count}
 work=${2:-$(mktemp -d)}
 . "$here/shared.sh"
 [ "$wanted" = count ] && few=few flags=-DFEW
-take_packages asn1_values_bits asn1_notation_syntax asn1_notation_types asn1_relay_core asn1_table_relay
+take_packages asn1_schema asn1_values $codecs asn1_notation_syntax asn1_notation_types asn1_relay_core asn1_table_relay
 make_bench_common
+make_bench_rules
 make_vehicle_bench
+make_vehicle_types
+make_vehicle_typed
 prove vehicle_bench
+prove vehicle_typed
+compile $flags "$here/vehicle/alone.c"
+mv "$work/plain" "$work/alone"
 compile $flags "$here/vehicle/plain.c"
 generate "$here/vehicle" vehicle.asn1 $flags
 
@@ -37,7 +43,9 @@ measured() {
 : > "$work/times"
 for round in $([ "$wanted" = time ] && echo 1 2 3 4 5 || echo 1); do
     measured plain "$work/plain"
+    measured plain "$work/alone"
     [ -z "$generated" ] || measured asn1c "$generated"
+    measured types "$work/crates/vehicle_typed/out/vehicle_typed" ${few:-all}
     measured here "$work/crates/vehicle_bench/out/vehicle_bench" ${few:-all}
 done
 awk -v wanted="$wanted" '
