@@ -107,7 +107,7 @@ make_vehicle_types() {
         path=vehicle/path.in position=vehicle/position.in
     proof=$work/crates/vehicle_types/proofs/bend/BendAlternativeChoiceAlternatives/write_chosen
     mkdir -p "$proof"
-    cp "$here/vehicle/bend.antt" "$proof/Answers.antt"
+    cp "$here/vehicle/bend_proof.in" "$proof/Answers.antt"
 }
 make_vehicle_typed() {
     make_package vehicle_typed 'vehicle_types bench_common bench_rules asn1_relay_core asn1_schema_errors asn1_values_bits anyhow' \
