@@ -1,3 +1,4 @@
 mod Checked
 mod Digits
+mod Files
 mod Typed

@@ -1,6 +1,7 @@
 -- What a run over a type of a table does with its reader and its writer, whose octets are those that the one will still
 -- return and the other holds, if they are known.
 use Rattle.std.specs.Prelude.{◌≡◌, ◌⊎◌, ℕ, List, Bool, Option, Some, None, IsSome, false, true}
+use Rattle.std.specs.Io.KnownBytes.{Keeps}
 use Rattle.asn1_model.specs.Lawful.{is_of}
 use Rattle.asn1_model.specs.Schema.{Schema}
 use Rattle.asn1_model.specs.Value.{Value}
@@ -212,17 +213,37 @@ pub record HasFailed (o : Order) (unread unread' held held' : Known) : Type 0 wh
 
 -- ---- command lines
 
--- a command line requests something, of which this holds if it names no file of the input or the output
+-- the given stream, or a file in its place, while the given one stays as it was
+abbrev pub InPlace : {X : Type 0} → Option X → Known → Known → Known → Known → Type 0
+InPlace None given given' here here' = (here ≡ given) × (here' ≡ given')
+InPlace (Some name) given given' here here' = Keeps given given'
+
+-- this holds of the given stream, or of a file in its place
+pub record Via {X : Type 0} (name : Option X) (P : Known → Known → Type 0) (given given' : Known) : Type 0 where
+  pub here : Known
+  pub here' : Known
+  pub stream : InPlace name given given' here here'
+  pub holds : P here here'
+
+-- this holds of what was read and written, each by the given stream or by the file that was named
+abbrev pub Through : Order → (Known → Known → Known → Known → Type 0) → Known → Known → Known → Known → Type 0
+Through o P unread unread' held held' = Via o.input (λ left left'. Via o.output (P left left') held held') unread unread'
+
+-- a command line requests something, of which this holds
 pub record IsAsked (asked : Option Request) (P : Order → Type 0) : Type 0 where
   pub order : Order
   pub asks : asked ≡ Some (request_of order)
-  pub holds : order.input ≡ None → order.output ≡ None → P order
+  pub holds : P order
 
--- status 1: nothing was read and nothing written, since memory ran out or a file was not read, or else what was
--- requested has failed
+-- status 0: what was requested is done
+abbrev pub IsObeyed : Option Request → Known → Known → Known → Known → Type 0
+IsObeyed asked unread unread' held held' = IsAsked asked (λ o. Through o (HasDone o) unread unread' held held')
+
+-- status 1: nothing was read and nothing written, since memory ran out or a file could not be opened or made, or else
+-- what was requested has failed
 abbrev pub HasStopped : Option Request → Known → Known → Known → Known → Type 0
 HasStopped asked unread unread' held held' =
-    IsUntouched unread unread' held held' ⊎ IsAsked asked (λ o. HasFailed o unread unread' held held')
+    IsUntouched unread unread' held held' ⊎ IsAsked asked (λ o. Through o (HasFailed o) unread unread' held held')
 
 -- status 2: the command line requests nothing
 pub record HasRefused (asked : Option Request) (unread unread' held held' : Known) : Type 0 where

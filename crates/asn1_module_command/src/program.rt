@@ -1,10 +1,12 @@
 //! The command over modules.
-ghost use Rattle.std.specs.Prelude.{◌≡◌, ◌≢◌, ◌≤◌, None, [], MatchResult, map};
+ghost use Rattle.std.specs.Prelude.{◌≡◌, ◌≢◌, ◌≤◌, ◌⊎◌, [], MatchResult, map};
 ghost use Rattle.clap.specs.Words.{kind_of};
 ghost use Rattle.asn1_module_command.specs.Checks.{HasChecked, StopsChecking};
 ghost use Rattle.asn1_module_command.specs.Runs.{HasDone, HasFailed, HasRefused, HasRouted, HasStopped, HasTranslated};
-ghost use Rattle.asn1_module_command.specs.Runs.{IsAsked, OfType, OfTypes, StopsAt, StopsOnRoute, StopsTranslating};
+ghost use Rattle.asn1_module_command.specs.Runs.{IsObeyed, OfType, OfTypes, StopsAt, StopsOnRoute, StopsTranslating};
+ghost use Rattle.asn1_module_command.specs.Runs.{Through, Via};
 ghost use Rattle.asn1_module_order.specs.Orders.{CanBeDone, IsBounded, asked_by};
+ghost use Rattle.asn1_relay_command.specs.Runs.{IsUntouched};
 
 use crate::checking::check_message;
 use crate::errors::{CommandError, Stop};
@@ -33,8 +35,8 @@ use std::rt::Files;
 ///   out. What is wrong is written to `errors`.
 /// * 2: the command line is not valid. A text is written to `errors`.
 ///
-/// A file that the command line names is read in the place of `input`, or written in that of `output`; nothing is
-/// ensured then of what is done.
+/// A file that the command line names is read in the place of `input`, or written in that of `output`, and the stream is
+/// not touched.
 pub fn module_command<F: Files + AllocGlobal, S: AsStr, R: Read, W: Write, E: Write>(
     rt: &F,
     words: &[S],
@@ -43,8 +45,8 @@ pub fn module_command<F: Files + AllocGlobal, S: AsStr, R: Read, W: Write, E: Wr
     errors: &mut E,
 ) -> u8
     ensures status { result ≤ 2 }
-    ensures done { result ≡ 0 → IsAsked (asked_by (map S.text words.now)) (λ o. HasDone o
-        (R.remaining input.old) (R.remaining input.new) (W.contents output.old) (W.contents output.new)) }
+    ensures done { result ≡ 0 → IsObeyed (asked_by (map S.text words.now))
+        (R.remaining input.old) (R.remaining input.new) (W.contents output.old) (W.contents output.new) }
     ensures failed { result ≡ 1 → HasStopped (asked_by (map S.text words.now))
         (R.remaining input.old) (R.remaining input.new) (W.contents output.old) (W.contents output.new) }
     ensures bad { result ≡ 2 → HasRefused (asked_by (map S.text words.now))
@@ -72,9 +74,11 @@ fn obey_from<F: Files + AllocGlobal, R: Read, W: Write, E: Write>(
 ) -> u8
     requires { CanBeDone order.now.action }
     ensures status { result ≤ 1 }
-    ensures done { result ≡ 0 → order.now.input ≡ None → order.now.output ≡ None → HasDone order.now
+    ensures done { result ≡ 0 → Through order.now (HasDone order.now)
         (R.remaining input.old) (R.remaining input.new) (W.contents output.old) (W.contents output.new) }
-    ensures failed { result ≡ 1 → order.now.input ≡ None → order.now.output ≡ None → HasFailed order.now
+    ensures failed { result ≡ 1 → IsUntouched
+        (R.remaining input.old) (R.remaining input.new) (W.contents output.old) (W.contents output.new)
+        ⊎ Through order.now (HasFailed order.now)
         (R.remaining input.old) (R.remaining input.new) (W.contents output.old) (W.contents output.new) }
 {
     let Some(name) = &order.input else {
@@ -97,10 +101,13 @@ fn obey_to<F: Files + AllocGlobal, R: Read, W: Write, E: Write>(
 ) -> u8
     requires { CanBeDone order.now.action }
     ensures status { result ≤ 1 }
-    ensures done { result ≡ 0 → order.now.output ≡ None → HasDone order.now
-        (R.remaining input.old) (R.remaining input.new) (W.contents output.old) (W.contents output.new) }
-    ensures failed { result ≡ 1 → order.now.output ≡ None → HasFailed order.now
-        (R.remaining input.old) (R.remaining input.new) (W.contents output.old) (W.contents output.new) }
+    ensures done { result ≡ 0 → Via order.now.output
+        (HasDone order.now (R.remaining input.old) (R.remaining input.new))
+        (W.contents output.old) (W.contents output.new) }
+    ensures failed { result ≡ 1 → IsUntouched
+        (R.remaining input.old) (R.remaining input.new) (W.contents output.old) (W.contents output.new)
+        ⊎ Via order.now.output (HasFailed order.now (R.remaining input.old) (R.remaining input.new))
+        (W.contents output.old) (W.contents output.new) }
 {
     let Some(name) = &order.output else {
         return obey(rt.alloc(), order, sources, input, output, errors);
