@@ -1,13 +1,13 @@
 -- What a check of a message does with its reader and its writer.
-use Rattle.std.specs.Prelude.{◌≡◌, ◌≢◌, ℕ, List, [], ◌∷◌, ◌++◌, Option, Some, None, codes, false, slice_get, take}
+use Rattle.std.specs.Prelude.{◌≡◌, ◌≢◌, ℕ, List, [], ◌∷◌, ◌++◌, Option, Some, None, codes, slice_get, take}
 use Rattle.std.specs.Io.KnownBytes.{Appends, Keeps}
 use Rattle.asn1_model.specs.Schema.{Schema}
-use Rattle.asn1_relay_command.specs.Runs.{BecomesAs, IsAllRead, IsRefusedAs, Known}
+use Rattle.asn1_relay_command.specs.Runs.{BecomesAs, IsRefusedAs, Known}
 use Rattle.asn1_relay_command.specs.declared.fault.Fault.TheVariants as fault
 use Rattle.asn1_relay_core.specs.Ends.{BeginsToAppend}
 use Rattle.asn1_relay_core.specs.Recoding.{answered}
 use Rattle.asn1_relay_core.specs.declared.codec.Codec.{Codec}
-use Rattle.asn1_module_command.specs.Digits.{IsReadIn}
+use Rattle.asn1_module_command.specs.Digits.{IsReadIn, StopsFromReading}
 use Rattle.asn1_module_command.specs.declared.errors.CommandError.{CommandError}
 use Rattle.asn1_module_command.specs.declared.errors.CommandError.TheVariants as error
 use Rattle.asn1_module_order.specs.declared.order.Check.{Check}
@@ -52,19 +52,6 @@ StopsSaying s rules message held held' (error.Fault fault.WriteFailed) =
     IsCanonical s rules message × BeginsToAppend held held' canonical_line
 StopsSaying s rules message held held' e = IsNotCanonical s rules message e × Keeps held held'
 
--- everything was read, and then an error stops this
-pub record StopsAfterAll (s : Schema) (rules : Codec) (unread unread' held held' : Known) (e : CommandError)
-    : Type 0 where
-  pub message : List ℕ
-  pub read : IsAllRead unread unread' message
-  pub stops : StopsSaying s rules message held held' e
-
--- an error stops this: the reader failed or memory ran out, and nothing was said, or all was read
-abbrev pub IsNotChecked : Schema → Codec → Known → Known → Known → Known → CommandError → Type 0
-IsNotChecked s rules unread unread' held held' (error.Fault fault.ReadFailed) = Keeps held held'
-IsNotChecked s rules unread unread' held held' (error.Fault fault.OutOfMemory) = Keeps held held'
-IsNotChecked s rules unread unread' held held' e = StopsAfterAll s rules unread unread' held held' e
-
 -- what was requested is done: everything was read, as octets or as their digits, which is a canonical message, and that
 -- was said
 pub record HasChecked (c : Check) (s : Schema) (unread unread' held held' : Known) : Type 0 where
@@ -72,7 +59,7 @@ pub record HasChecked (c : Check) (s : Schema) (unread unread' held held' : Know
   pub read : IsReadIn c.is_hexadecimal unread unread' message
   pub said : IsSaid s c.rules message held held'
 
--- an error stops this; nothing is said of hexadecimal digits
+-- an error stops this, in the reading, with nothing said, or then
 abbrev pub StopsChecking : Check → Schema → Known → Known → Known → Known → CommandError → Type 0
 StopsChecking c s unread unread' held held' e =
-    c.is_hexadecimal ≡ false → IsNotChecked s c.rules unread unread' held held' e
+    StopsFromReading c.is_hexadecimal (StopsSaying s c.rules) unread unread' held held' e

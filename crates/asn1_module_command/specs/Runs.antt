@@ -8,8 +8,9 @@ use Rattle.asn1_model.specs.Value.{Value}
 use Rattle.asn1_model.specs.Versions.{Extends}
 use Rattle.asn1_notation_types.specs.declared.tables.Table.{Table}
 use Rattle.asn1_relay_command.specs.Runs.{ComesAs, DoesOnceAs, DoesStreamAs, HasWritten, IsRunFaultAs, IsUntouched}
-use Rattle.asn1_relay_command.specs.Runs.{Known, StopsOnceAs, StopsRouteAs}
+use Rattle.asn1_relay_command.specs.Runs.{IsTurnedBackAs, Known, StopsOnceAs}
 use Rattle.asn1_relay_command.specs.declared.fault.Fault.{Fault}
+use Rattle.asn1_relay_command.specs.declared.fault.Fault.TheVariants as fault
 use Rattle.asn1_relay_core.specs.Coding.{IsWritten, rules_of}
 use Rattle.asn1_relay_core.specs.Routing.{arrived}
 use Rattle.asn1_relay_core.specs.declared.codec.Codec.{Codec}
@@ -17,7 +18,8 @@ use Rattle.asn1_relay_core.specs.declared.hop.Hop.{Hop}
 use Rattle.asn1_schema_laws.specs.Tables.{IsValue}
 use Rattle.asn1_table_nodes.specs.Meaning.{type_at}
 use Rattle.asn1_module_command.specs.Checks.{HasChecked, StopsChecking}
-use Rattle.asn1_module_command.specs.Digits.{IsReadIn, IsWrittenIn, TakesDigits, WritesDigits}
+use Rattle.asn1_module_command.specs.Digits.{IsReadIn, IsWrittenIn, StopsDigits, StopsFromReading, StopsOnOctets}
+use Rattle.asn1_module_command.specs.Digits.{StopsWriting, TakesDigits, WritesDigits}
 use Rattle.asn1_module_command.specs.declared.errors.CommandError.{CommandError}
 use Rattle.asn1_module_command.specs.declared.errors.CommandError.TheVariants as error
 use Rattle.asn1_module_command.specs.declared.errors.Stop.{Stop}
@@ -118,10 +120,27 @@ abbrev pub HasTranslated : Translation → Schema → Known → Known → Known 
 HasTranslated t s unread unread' held held' =
     TranslatesIn t.is_hexadecimal t.extent s t.to t.from unread unread' held held'
 
--- an error stops this; nothing is said of hexadecimal digits
+-- an error stops this, with the digits of octets written in their place
+abbrev pub StopsLeaving : Extent → Schema → Form → Form → Known → Known → Known → Known → CommandError → Type 0
+StopsLeaving x s form.Json from unread unread' held held' e = Unit {0}
+StopsLeaving x s (form.Rules to) from unread unread' held held' e =
+    StopsDigits (DoesIn x s (form.Rules to) from) (StopsIn x s (form.Rules to) from) unread unread' held held' e
+
+-- the same, with the digits of octets read in their place, too
+abbrev pub StopsInDigits : Extent → Schema → Form → Form → Known → Known → Known → Known → CommandError → Type 0
+StopsInDigits x s to form.Json unread unread' held held' e = StopsLeaving x s to form.Json unread unread' held held' e
+StopsInDigits x s to (form.Rules from) unread unread' held held' e =
+    StopsFromReading true (StopsOnOctets (StopsLeaving x s to (form.Rules from))) unread unread' held held' e
+
+-- with octets, or with their digits in their place
+abbrev pub StopsEither : Bool → Extent → Schema → Form → Form → Known → Known → Known → Known → CommandError → Type 0
+StopsEither false x s to from unread unread' held held' e = StopsIn x s to from unread unread' held held' e
+StopsEither true x s to from unread unread' held held' e = StopsInDigits x s to from unread unread' held held' e
+
+-- an error stops what was requested
 abbrev pub StopsTranslating : Translation → Schema → Known → Known → Known → Known → CommandError → Type 0
 StopsTranslating t s unread unread' held held' e =
-    t.is_hexadecimal ≡ false → StopsIn t.extent s t.to t.from unread unread' held held' e
+    StopsEither t.is_hexadecimal t.extent s t.to t.from unread unread' held held' e
 
 -- ---- routes
 
@@ -140,18 +159,31 @@ pub record HasRouted (r : Route) (old new : Schema) (unread unread' held held' :
   pub newer : Extends old new
   pub done : PassesIn r.is_hexadecimal old new r.from r.hops.items unread unread' held held'
 
--- an error stops this, which names such a fault
-pub record StopsBetween (r : Route) (old new : Schema) (unread unread' held held' : Known) (e : CommandError)
-    : Type 0 where
-  pub fault : Fault
-  pub names : fault_in e ≡ Some fault
-  pub stops : StopsRouteAs old new r.from r.hops.items unread unread' held held' fault
+-- a message arrives, and an error stops the writing
+pub record StopsOnArrival (in_digits : Bool) (old new : Schema) (from : Codec) (hops : List Hop) (message : List ℕ)
+    (held held' : Known) (e : CommandError) : Type 0 where
+  pub octets : List ℕ
+  pub arrives : ComesAs old new from hops message (arrived octets)
+  pub stops : StopsWriting in_digits held held' octets e
 
--- the second type is a newer version of the first, and an error stops this; nothing is said of hexadecimal digits
+-- an error stops a message: at a hop, with nothing written, or when it has arrived
+abbrev pub StopsOnWay : Bool → Schema → Schema → Codec → List Hop → List ℕ → Known → Known → CommandError → Type 0
+StopsOnWay in_digits old new from hops message held held' (error.Fault (fault.AtHop i kind)) =
+    IsTurnedBackAs old new from hops message (fault.AtHop i kind) × Keeps held held'
+StopsOnWay in_digits old new from hops message held held' e =
+    StopsOnArrival in_digits old new from hops message held held' e
+
+-- an error stops this, in the reading or on the way, with octets or with their digits in their place
+abbrev pub StopsPassing : Bool → Schema → Schema → Codec → List Hop → Known → Known → Known → Known → CommandError
+    → Type 0
+StopsPassing in_digits old new from hops unread unread' held held' e =
+    StopsFromReading in_digits (StopsOnWay in_digits old new from hops) unread unread' held held' e
+
+-- the second type is a newer version of the first, and an error stops what is done with these
 pub record StopsRouting (r : Route) (old new : Schema) (unread unread' held held' : Known) (e : CommandError)
     : Type 0 where
   pub newer : Extends old new
-  pub stops : r.is_hexadecimal ≡ false → StopsBetween r old new unread unread' held held' e
+  pub stops : StopsPassing r.is_hexadecimal old new r.from r.hops.items unread unread' held held' e
 
 -- nothing was read and nothing written, since the second type does not extend the first, or memory ran out while they
 -- were compared; or else an error stops what was requested

@@ -95,6 +95,11 @@ impl From<WriteError> for CommandError {
 }
 
 impl From<AllocError> for CommandError {
+    ghost use Rattle.asn1_module_command.specs.declared.errors.CommandError.TheVariants as error;
+    ghost use Rattle.asn1_relay_command.specs.declared.fault.Fault.TheVariants as fault;
+
+    ghost from_gives = { λ _ e. e ≡ error.Fault fault.OutOfMemory };
+
     fn from(_refused: AllocError) -> Self {
         CommandError::Fault(Fault::OutOfMemory)
     }

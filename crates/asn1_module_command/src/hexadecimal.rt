@@ -1,7 +1,8 @@
 //! Octets as hexadecimal text.
-ghost use Rattle.std.specs.Prelude.{◌≡◌, ◌⊎◌, IfErr, IfOk, OnOk, false};
+ghost use Rattle.std.specs.Prelude.{◌≡◌, IfErr, IfOk, MatchResult, true};
 ghost use Rattle.std.specs.Io.KnownBytes.{Appends};
-ghost use Rattle.asn1_module_command.specs.Digits.{AreDigitsOf, IsReadIn, digit_line};
+ghost use Rattle.asn1_module_command.specs.Digits.{AreDigitsOf, IsReadIn, StopsDecoding, StopsReading, StopsWriting};
+ghost use Rattle.asn1_module_command.specs.Digits.{digit_line};
 
 use crate::errors::CommandError;
 use asn1_relay_command::{Fault, read_all, write_all};
@@ -20,8 +21,7 @@ pub(crate) fn read_message<R: Read>(
     input: &mut R,
 ) -> Result<Vec<u8>, CommandError>
     ensures ok { IfOk result (λ v. IsReadIn is_hexadecimal (R.remaining input.old) (R.remaining input.new) v.items) }
-    ensures err { IfErr result (λ e. is_hexadecimal ≡ false → (e ≡ CommandError.Fault Fault.ReadFailed)
-        ⊎ (e ≡ CommandError.Fault Fault.OutOfMemory)) }
+    ensures err { IfErr result (StopsReading is_hexadecimal (R.remaining input.old) (R.remaining input.new)) }
 {
     let text = read_all(alloc, input)?;
     if is_hexadecimal {
@@ -36,7 +36,7 @@ pub(crate) fn read_message<R: Read>(
 ///
 /// `NotHexadecimal` for any other text.
 fn octets_of(alloc: Global, text: &[u8]) -> Result<Vec<u8>, CommandError>
-    ensures { IfOk result (λ octets. AreDigitsOf text.now octets.items) }
+    ensures { MatchResult result (λ octets. AreDigitsOf text.now octets.items) (StopsDecoding text.now) }
 {
     let digits: Vec<u8> = text
         .iter()
@@ -56,7 +56,9 @@ pub(crate) fn write_digits<W: Write>(
     octets: &[u8],
     output: &mut W,
 ) -> Result<(), CommandError>
-    ensures { OnOk result (Appends (W.contents output.old) (W.contents output.new) (digit_line octets.now)) }
+    ensures { MatchResult result
+        (λ _. Appends (W.contents output.old) (W.contents output.new) (digit_line octets.now))
+        (StopsWriting true (W.contents output.old) (W.contents output.new) octets.now) }
 {
     let line = line_of(alloc, octets)?;
     write_all(line.as_slice(), output)?;

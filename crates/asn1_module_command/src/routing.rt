@@ -1,9 +1,10 @@
 //! A message passes from hop to hop, each with the older or the newer version of its type.
-ghost use Rattle.std.specs.Prelude.{◌≡◌, ◌≢◌, [], IfErr, IfOk, MatchResult, OnOk, true};
+ghost use Rattle.std.specs.Prelude.{◌≡◌, ◌≢◌, [], IfErr, IfOk, MatchResult, true};
 ghost use Rattle.asn1_relay_command.specs.Runs.{ComesAs, DoesRouteAs, IsTurnedBackAs, StopsRouteAs};
 ghost use Rattle.asn1_relay_core.specs.Routing.{arrived};
 ghost use Rattle.asn1_table_relay.specs.Schemas.{IsNewer, newer_of, older_of};
-ghost use Rattle.asn1_module_command.specs.Runs.{HasRouted, PassesIn, StopsRouting, StopsSending, schema_in};
+ghost use Rattle.asn1_module_command.specs.Runs.{HasRouted, PassesIn, StopsPassing, StopsRouting, StopsSending};
+ghost use Rattle.asn1_module_command.specs.Runs.{schema_in};
 ghost use Rattle.asn1_module_order.specs.Errors.{IsOfVersions};
 
 use crate::errors::{CommandError, Stop};
@@ -101,7 +102,10 @@ fn send_digits<R: Read, W: Write>(
 ) -> Result<(), CommandError>
     requires some { hops.now ≢ [] }
     requires newer { IsNewer versions.now }
-    ensures { OnOk result (PassesIn true (older_of versions.now 128) (newer_of versions.now 128) from hops.now
+    ensures { MatchResult result
+        (λ _. PassesIn true (older_of versions.now 128) (newer_of versions.now 128) from hops.now
+        (R.remaining input.old) (R.remaining input.new) (W.contents output.old) (W.contents output.new))
+        (StopsPassing true (older_of versions.now 128) (newer_of versions.now 128) from hops.now
         (R.remaining input.old) (R.remaining input.new) (W.contents output.old) (W.contents output.new)) }
 {
     let message = read_message(alloc, true, input)?;

@@ -1,9 +1,10 @@
 //! Messages of a type of a table are translated from one form to another.
-ghost use Rattle.std.specs.Prelude.{◌≤◌, MatchResult, OnOk};
+ghost use Rattle.std.specs.Prelude.{◌≤◌, MatchResult, OnOk, true};
 ghost use Rattle.asn1_module_order.specs.Orders.{IsBounded};
-ghost use Rattle.asn1_module_command.specs.Digits.{TakesDigits, WritesDigits};
+ghost use Rattle.asn1_module_command.specs.Digits.{StopsDigits, StopsFromReading, StopsOnOctets, TakesDigits};
+ghost use Rattle.asn1_module_command.specs.Digits.{WritesDigits};
 ghost use Rattle.asn1_module_command.specs.Runs.{Does, DoesIn, Encodes, HasTranslated, LeavesDigits, StopsBy, StopsIn};
-ghost use Rattle.asn1_module_command.specs.Runs.{StopsTranslating, WritesEncoding, schema_in};
+ghost use Rattle.asn1_module_command.specs.Runs.{StopsLeaving, StopsTranslating, WritesEncoding, schema_in};
 
 use crate::errors::CommandError;
 use crate::hexadecimal::{read_message, write_digits};
@@ -50,8 +51,12 @@ fn translate_digits<R: Read, W: Write>(
     output: &mut W,
 ) -> Result<(), CommandError>
     requires { IsBounded translation.extent }
-    ensures { OnOk result (TakesDigits
+    ensures { MatchResult result
+        (λ _. TakesDigits
         (LeavesDigits translation.extent (schema_in typed.entry.table.now) translation.to translation.from)
+        (R.remaining input.old) (R.remaining input.new) (W.contents output.old) (W.contents output.new))
+        (StopsFromReading true (StopsOnOctets
+        (StopsLeaving translation.extent (schema_in typed.entry.table.now) translation.to translation.from))
         (R.remaining input.old) (R.remaining input.new) (W.contents output.old) (W.contents output.new)) }
 {
     let octets = read_message(typed.alloc, true, input)?;
@@ -66,8 +71,10 @@ fn translate_to_digits<R: Read, W: Write>(
     output: &mut W,
 ) -> Result<(), CommandError>
     requires { IsBounded translation.extent }
-    ensures { OnOk result
-        (LeavesDigits translation.extent (schema_in typed.entry.table.now) translation.to translation.from
+    ensures { MatchResult result
+        (λ _. LeavesDigits translation.extent (schema_in typed.entry.table.now) translation.to translation.from
+        (R.remaining input.old) (R.remaining input.new) (W.contents output.old) (W.contents output.new))
+        (StopsLeaving translation.extent (schema_in typed.entry.table.now) translation.to translation.from
         (R.remaining input.old) (R.remaining input.new) (W.contents output.old) (W.contents output.new)) }
 {
     match translation.to {
@@ -84,17 +91,23 @@ fn encode_to_digits<R: Read, W: Write>(
     output: &mut W,
 ) -> Result<(), CommandError>
     requires { IsBounded translation.extent }
-    ensures { OnOk result (WritesDigits
+    ensures { MatchResult result
+        (λ _. WritesDigits
         (DoesIn translation.extent (schema_in typed.entry.table.now) translation.to translation.from)
+        (R.remaining input.old) (R.remaining input.new) (W.contents output.old) (W.contents output.new))
+        (StopsDigits
+        (DoesIn translation.extent (schema_in typed.entry.table.now) translation.to translation.from)
+        (StopsIn translation.extent (schema_in typed.entry.table.now) translation.to translation.from)
         (R.remaining input.old) (R.remaining input.new) (W.contents output.old) (W.contents output.new)) }
 {
     let mut octets = Vec::new(typed.alloc);
     match translate_input(typed, translation, input, &mut octets) {
         Ok(()) => write_digits(typed.alloc, octets.as_slice(), output),
         Err(error) => {
-            if !octets.is_empty() {
-                write_digits(typed.alloc, octets.as_slice(), output)?;
+            if octets.is_empty() {
+                return Err(error);
             }
+            write_digits(typed.alloc, octets.as_slice(), output)?;
             Err(error)
         }
     }
