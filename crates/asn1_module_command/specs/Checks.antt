@@ -59,7 +59,7 @@ pub record HasChecked (c : Check) (s : Schema) (unread unread' held held' : Know
   pub read : IsReadIn c.is_hexadecimal unread unread' message
   pub said : IsSaid s c.rules message held held'
 
--- an error stops this, in the reading, with nothing said, or then
+-- an error stops the reading, with nothing said, or what is said of the message
 abbrev pub StopsChecking : Check → Schema → Known → Known → Known → Known → CommandError → Type 0
 StopsChecking c s unread unread' held held' e =
     StopsFromReading c.is_hexadecimal (StopsSaying s c.rules) unread unread' held held' e

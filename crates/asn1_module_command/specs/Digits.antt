@@ -89,7 +89,7 @@ pub record StopsAfterAll (in_digits : Bool) (Stops : List ℕ → Known → Know
   pub read : IsReadIn in_digits unread unread' message
   pub stops : Stops message held held' e
 
--- an error stops the reading, with nothing written, or what is done then
+-- an error stops the reading, with nothing written, or what is done with what was read
 abbrev pub StopsFromReading : Bool → (List ℕ → Known → Known → CommandError → Type 0) → Known → Known → Known → Known
     → CommandError → Type 0
 StopsFromReading in_digits Stops unread unread' held held' e =
@@ -97,25 +97,26 @@ StopsFromReading in_digits Stops unread unread' held held' e =
     ⊎ StopsAfterAll in_digits Stops unread unread' held held' e
 
 -- octets, if there are any, were written as the line of their digits
-abbrev pub AreWritten : Known → Known → List ℕ → Type 0
-AreWritten held held' [] = Keeps held held'
-AreWritten held held' (first ∷ rest) = Appends held held' (digit_line (first ∷ rest))
+abbrev pub AreWrittenAsDigits : Known → Known → List ℕ → Type 0
+AreWrittenAsDigits held held' [] = Keeps held held'
+AreWrittenAsDigits held held' (first ∷ rest) = Appends held held' (digit_line (first ∷ rest))
 
--- an error stops what is done with octets in the place of the line of their digits; those of until then were written
+-- an error stops what is done with octets in the place of the line of their digits, and those before it were written
 pub record StopsBeforeLine (Stops : Known → Known → Known → Known → CommandError → Type 0)
     (unread unread' held held' : Known) (e : CommandError) : Type 0 where
   pub octets : List ℕ
   pub stops : Stops unread unread' (Some []) (Some octets) e
-  pub wrote : AreWritten held held' octets
+  pub wrote : AreWrittenAsDigits held held' octets
 
--- some error stops this after these octets, which are not none
+-- some error stops this, after at least one octet
 pub record LeavesSome (Stops : Known → Known → Known → Known → CommandError → Type 0) (unread unread' : Known)
     (octets : List ℕ) : Type 0 where
   pub some : octets ≢ []
   pub reason : CommandError
   pub stops : Stops unread unread' (Some []) (Some octets) reason
 
--- all or some was done with octets in the place of the line of their digits, and an error stops the writing of it
+-- all was done with octets in the place of the line of their digits, or some error stopped it, and an error stops that
+-- line
 pub record StopsInLine (Does : Known → Known → Known → Known → Type 0)
     (Stops : Known → Known → Known → Known → CommandError → Type 0) (unread unread' held held' : Known)
     (e : CommandError) : Type 0 where

@@ -133,14 +133,15 @@ StopsInDigits x s to (form.Rules from) unread unread' held held' e =
     StopsFromReading true (StopsOnOctets (StopsLeaving x s to (form.Rules from))) unread unread' held held' e
 
 -- with octets, or with their digits in their place
-abbrev pub StopsEither : Bool → Extent → Schema → Form → Form → Known → Known → Known → Known → CommandError → Type 0
-StopsEither false x s to from unread unread' held held' e = StopsIn x s to from unread unread' held held' e
-StopsEither true x s to from unread unread' held held' e = StopsInDigits x s to from unread unread' held held' e
+abbrev pub StopsTranslatingIn : Bool → Extent → Schema → Form → Form → Known → Known → Known → Known → CommandError
+    → Type 0
+StopsTranslatingIn false x s to from unread unread' held held' e = StopsIn x s to from unread unread' held held' e
+StopsTranslatingIn true x s to from unread unread' held held' e = StopsInDigits x s to from unread unread' held held' e
 
 -- an error stops what was requested
 abbrev pub StopsTranslating : Translation → Schema → Known → Known → Known → Known → CommandError → Type 0
 StopsTranslating t s unread unread' held held' e =
-    StopsEither t.is_hexadecimal t.extent s t.to t.from unread unread' held held' e
+    StopsTranslatingIn t.is_hexadecimal t.extent s t.to t.from unread unread' held held' e
 
 -- ---- routes
 
@@ -259,7 +260,8 @@ pub record Via {X : Type 0} (name : Option X) (P : Known → Known → Type 0) (
 
 -- this holds of what was read and written, each by the given stream or by the file that was named
 abbrev pub Through : Order → (Known → Known → Known → Known → Type 0) → Known → Known → Known → Known → Type 0
-Through o P unread unread' held held' = Via o.input (λ left left'. Via o.output (P left left') held held') unread unread'
+Through o P unread unread' held held' =
+    Via o.input (λ left left'. Via o.output (P left left') held held') unread unread'
 
 -- a command line requests something, of which this holds
 pub record IsAsked (asked : Option Request) (P : Order → Type 0) : Type 0 where

@@ -35,8 +35,8 @@ use std::rt::Files;
 ///   out. What is wrong is written to `errors`.
 /// * 2: the command line is not valid. A text is written to `errors`.
 ///
-/// A file that the command line names is read in the place of `input`, or written in that of `output`, and the stream is
-/// not touched.
+/// A file that the command line names is read in the place of `input`, or written in that of `output`, which then stays
+/// as it was.
 pub fn module_command<F: Files + AllocGlobal, S: AsStr, R: Read, W: Write, E: Write>(
     rt: &F,
     words: &[S],
