@@ -251,7 +251,7 @@ abbrev pub InPlace : {X : Type 0} → Option X → Known → Known → Known →
 InPlace None given given' here here' = (here ≡ given) × (here' ≡ given')
 InPlace (Some name) given given' here here' = Keeps given given'
 
--- this holds of the given stream, or of a file in its place
+-- this holds of the given stream, or of a file in its place, whose octets may not be known
 pub record Via {X : Type 0} (name : Option X) (P : Known → Known → Type 0) (given given' : Known) : Type 0 where
   pub here : Known
   pub here' : Known
